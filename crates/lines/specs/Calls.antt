@@ -1,0 +1,55 @@
+-- Document 01: what the calls `read_line`, `starts` and `color_ranges` refuse, in its order, and what they write.
+use mathlib.Core.Bool.{Bool, _||_}
+use mathlib.Core.List.{List, [], _∷_, _++_}
+use Prim.Native.Nat.{ℕ, _+_, _-_, _%_}
+use lib.ListN.{length}
+use lib.Dec.{eqb, ltb}
+use Rattle.lists.specs.Each.{each}
+use Rattle.refusals.specs.Verdict.{Verdict, accepted, refuse, andThen}
+use Rattle.lines.specs.Clue.{Block, words, blocks, gap, packed, starts, minSpace, positions, ofColor, range}
+use Rattle.lines.specs.Line.{runs}
+
+-- a width, height or line length that is 0 or over 64
+abbrev pub offSize : ℕ → Bool
+offSize n = eqb n 0 || ltb 64 n
+
+-- a colour that is not 1 to 31
+abbrev pub offColor : ℕ → Bool
+offColor c = eqb c 0 || ltb 31 c
+
+-- 4 and 5 by word, from word i on
+unfoldable pub blockChecks : ℕ → List ℕ → Verdict
+blockChecks i [] = accepted 0
+blockChecks i (size ∷ []) = accepted 0
+blockChecks i (size ∷ color ∷ ws) = refuse (eqb size 0) 4 i (refuse (offColor color) 5 (i + 1) (blockChecks (i + 2) ws))
+
+-- 2; 1 for an odd number of words; 3; 4 and 5 by word; 6
+unfoldable pub clueChecks : ℕ → List ℕ → Verdict
+clueChecks n clue =
+    refuse (offSize n) 2 0
+    (refuse (eqb (length clue % 2) 1) 1 (length clue)
+    (refuse (ltb 128 (length clue)) 3 0
+    (andThen (blockChecks 0 clue)
+    (refuse (ltb n (minSpace gap (blocks clue))) 6 0
+    (accepted (minSpace gap (blocks clue)))))))
+
+-- p, least space, then the starts
+unfoldable pub startsWords : ℕ → List ℕ → List ℕ
+startsWords n clue = positions gap n (blocks clue) ∷ minSpace gap (blocks clue) ∷ starts (packed gap (blocks clue))
+
+-- a pair for colours 1 to 31, zeros where absent
+unfoldable pub rangesWords : ℕ → List ℕ → List ℕ
+rangesWords n clue = each 31 (λ k. range (positions gap n (blocks clue) - 1) (ofColor (k + 1) (packed gap (blocks clue))))
+
+-- 18 at the first byte over 31, from byte i on
+unfoldable pub byteChecks : ℕ → List ℕ → Verdict
+byteChecks i [] = accepted 0
+byteChecks i (x ∷ l) = refuse (ltb 31 x) 18 i (byteChecks (i + 1) l)
+
+-- 2, 18
+unfoldable pub lineChecks : List ℕ → Verdict
+lineChecks line = refuse (offSize (length line)) 2 0 (byteChecks 0 line)
+
+-- size and colour pairs
+unfoldable pub lineWords : List ℕ → List ℕ
+lineWords line = words (runs line)

@@ -1,0 +1,4 @@
+pub mod Clue
+pub mod Line
+pub mod Arrangement
+pub mod Calls

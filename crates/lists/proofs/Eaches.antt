@@ -1,0 +1,51 @@
+-- The laws of `each`.
+use mathlib.Core.Path.{_≡_, refl, sym, ap, _∙_}
+use mathlib.Core.List.{List, [], _∷_, _++_, append-assoc, append-nil}
+use Prim.Native.Nat.{ℕ, zero, suc, _+_, _-_, _≤_, _<_}
+use native.Mathlib.Omega.{arith}
+use native.Mathlib.Nat.{add-zero, add-suc}
+use native.Mathlib.Numerals.{add-one}
+use lib.ListN.{length, getD, length-append, List·getD-append}
+use lib.Seq.{getD-append-seam}
+use Rattle.lists.specs.Each.{each, tab}
+
+module _ {A : Type 0} where
+  pub each-plus : (m n : ℕ) (f : ℕ → List A) → each (m + n) f ≡ each m f ++ each n (λ k. f (m + k))
+  unfolding each
+  each-plus m zero f = rw add-zero (sym (append-nil (each m f)))
+  each-plus m (suc n) f = rw (add-suc, each-plus m n f, append-assoc)
+
+  pub each-same : (n : ℕ) (f g : ℕ → List A) → ((k : ℕ) → k < n → f k ≡ g k) → each n f ≡ each n g
+  unfolding each
+  each-same zero f g h = refl
+  each-same (suc n) f g h = rw (each-same n f g (λ k l. h k (omega arith)), h n (omega arith))
+
+  -- what a loop that stands at i still has to do
+  pub rest : ℕ → ℕ → (ℕ → List A) → List A
+  rest i n f = each (n - i) (λ k. f (i + k))
+
+  pub rest-first : (n : ℕ) (f : ℕ → List A) → each n f ≡ rest 0 n f
+  unfolding rest
+  rest-first n f =
+      let e : n ≡ n - 0 = omega arith in
+      ap (λ (m : ℕ). each m f) e ∙ each-same (n - 0) f (λ k. f (0 + k)) (λ k l. ap f (omega arith))
+
+  pub rest-next : (i n : ℕ) (f : ℕ → List A) → i < n → rest i n f ≡ f i ++ rest (i + 1) n f
+  unfolding rest each
+  rest-next i n f h =
+      let e : n - i ≡ 1 + (n - (i + 1)) = omega arith in
+      rw (e, each-plus 1 (n - (i + 1)) (λ k. f (i + k)), add-zero)
+      (ap (λ (l : List A). f i ++ l) (each-same (n - (i + 1)) (λ k. f (i + (1 + k))) (λ k. f (i + 1 + k)) (λ k l. ap f (omega arith))))
+
+  pub rest-done : (i n : ℕ) (f : ℕ → List A) → n ≤ i → rest i n f ≡ []
+  unfolding rest each
+  rest-done i n f h =
+      let e : n - i ≡ 0 = omega arith in
+      rw e
+
+  -- ---- the list of one element for each number
+
+  pub length-tab : (n : ℕ) (f : ℕ → A) → length (tab n f) ≡ n
+  unfolding tab each
+  length-tab zero f = refl
+  length-tab (suc n) f = rw (length-append) (omega (arith, length-tab n f))

@@ -1,0 +1,1 @@
+// No code: the lists that loops make and the words that writers leave, with their laws.

@@ -1,0 +1,31 @@
+-- What a call with a lent buffer answers and leaves: one form for every entry. `checks` are its refusals before 12, and ws what it writes.
+use mathlib.Core.Path.{_≡_}
+use mathlib.Core.List.{List}
+use Prim.Native.Nat.{ℕ}
+use lib.ListN.{length}
+use lib.Dec.{ltb}
+use Rattle.lists.specs.Wrote.{over}
+use Rattle.refusals.specs.declared.Answer.{Answer}
+use Rattle.refusals.specs.Verdict.{Verdict, accepted, refused, number, place, refuse, andThen}
+use Rattle.refusals.specs.Told.{told}
+
+module _ {A : Type 0} where
+  -- 12 is given last, at the length needed
+  abbrev pub verdict : Verdict → List A → List A → Verdict
+  verdict checks ws out = andThen checks (refuse (ltb (length out) (length ws)) 12 (length ws) (accepted (length ws)))
+
+  -- no refusal writes anything; acceptance writes exactly ws at the front, and the rest stays
+  abbrev pub kept : Verdict → List A → List A → List A
+  kept (accepted n) ws out = over ws out
+  kept (refused k p) ws out = out
+
+  -- an answer of the code, with the buffer that it leaves
+  pub record Answers (checks : Verdict) (ws out : List A) (answer : Answer) (out′ : List A) : Type 0 where
+    pub answer-is : told answer ≡ verdict checks ws out
+    pub out-is : out′ ≡ kept (verdict checks ws out) ws out
+
+  -- the number and the place that a caller sees, with the buffer that it gets back
+  pub record Outcome (checks : Verdict) (ws out : List A) (n p : ℕ) (out′ : List A) : Type 0 where
+    pub number-is : n ≡ number (verdict checks ws out)
+    pub place-is : p ≡ place (verdict checks ws out)
+    pub out-is : out′ ≡ kept (verdict checks ws out) ws out

@@ -1,0 +1,26 @@
+-- Document 01, "Refusal numbers": every answer has a number and a place; 0 is acceptance.
+use mathlib.Core.Bool.{Bool, cond}
+use Prim.Native.Nat.{ℕ}
+
+pub data Verdict : Type 0 where
+  -- the place is how many words or bytes were written
+  accepted : ℕ → Verdict
+  -- number and place
+  refused : ℕ → ℕ → Verdict
+
+abbrev pub number : Verdict → ℕ
+number (accepted n) = 0
+number (refused k p) = k
+
+abbrev pub place : Verdict → ℕ
+place (accepted n) = n
+place (refused k p) = p
+
+-- number k at place p is given when the test holds, and else what follows
+abbrev pub refuse : Bool → ℕ → ℕ → Verdict → Verdict
+refuse b k p v = cond b (refused k p) v
+
+-- a refusal is handed up unchanged, and after an acceptance comes what follows
+abbrev pub andThen : Verdict → Verdict → Verdict
+andThen (accepted n) v = v
+andThen (refused k p) v = refused k p
