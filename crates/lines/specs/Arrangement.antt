@@ -2,7 +2,7 @@
 use mathlib.Core.Path.{_≡_}
 use mathlib.Core.Bool.{Bool, false, _&&_, cond}
 use mathlib.Core.List.{List, [], _∷_}
-use Prim.Native.Nat.{ℕ, suc, _+_, _≤_, _<_}
+use Prim.Native.Nat.{ℕ, suc, _+_, _-_, _≤_, _<_}
 use lib.ListN.{length, getD}
 use lib.Dec.{leb, ltb}
 use Rattle.lists.specs.Each.{tab}
@@ -14,10 +14,14 @@ pub record Gap (gap : ℕ → ℕ → ℕ) : Type 0 where
   pub most : (c d : ℕ) → gap c d ≤ 1
   pub first : (d : ℕ) → 0 < d → gap 0 d ≡ 0
 
+-- the b-th block
+abbrev pub blockAt : List Block → ℕ → Block
+blockAt bs b = getD bs b (record { size = 0; color = 0 })
+
 -- every block has a size and a colour
 pub record Proper (bs : List Block) : Type 0 where
-  pub sizes : (b : ℕ) → b < length bs → 0 < getD bs b (record { size = 0; color = 0 }) .size
-  pub colors : (b : ℕ) → b < length bs → 0 < getD bs b (record { size = 0; color = 0 }) .color
+  pub sizes : (b : ℕ) → b < length bs → 0 < blockAt bs b .size
+  pub colors : (b : ℕ) → b < length bs → 0 < blockAt bs b .color
 
 -- the b-th run
 abbrev pub at : List Run → ℕ → Run
@@ -35,20 +39,29 @@ covers r t = leb (r .start) t && ltb t (end r)
 abbrev pub clash : (ℕ → ℕ → ℕ) → Run → Run → Bool
 clash gap r q = conflict gap (r .color) (end r) (q .color) (q .start)
 
+-- by how much the earlier of two packed runs must move ahead of the later one to meet it
+unfoldable pub distance : (ℕ → ℕ → ℕ) → Run → Run → ℕ
+distance gap r q = q .start - end r + 1 - gap (r .color) (q .color)
+
 -- each block b at its position o b: within the line, and no two in conflict
 pub record Arranged (gap : ℕ → ℕ → ℕ) (n : ℕ) (bs : List Block) (o : ℕ → ℕ) : Type 0 where
   pub fits : minSpace gap bs ≤ n
   pub below : (b : ℕ) → b < length bs → o b < positions gap n bs
   pub apart : (a b : ℕ) → a < b → b < length bs → clash gap (moved (at (packed gap bs) a) (o a)) (moved (at (packed gap bs) b) (o b)) ≡ false
 
+-- each run b, o b cells to the right
+unfoldable pub placed : List Run → (ℕ → ℕ) → List Run
+placed [] o = []
+placed (r ∷ R) o = moved r (o 0) ∷ placed R (λ b. o (suc b))
+
 -- the colour of cell t: that of the run that covers it, or blank
-unfoldable pub colorAt : List Run → (ℕ → ℕ) → ℕ → ℕ
-colorAt [] o t = 0
-colorAt (r ∷ R) o t = cond (covers (moved r (o 0)) t) (r .color) (colorAt R (λ b. o (suc b)) t)
+unfoldable pub colorAt : List Run → ℕ → ℕ
+colorAt [] t = 0
+colorAt (r ∷ R) t = cond (covers r t) (r .color) (colorAt R t)
 
 -- the line of n cells that an arrangement shows
 unfoldable pub render : (ℕ → ℕ → ℕ) → ℕ → List Block → (ℕ → ℕ) → List ℕ
-render gap n bs o = tab n (colorAt (packed gap bs) o)
+render gap n bs o = tab n (colorAt (placed (packed gap bs) o))
 
 -- two different colours touch only where their gap is 0
 abbrev pub Spaced : (ℕ → ℕ → ℕ) → List ℕ → Type 0

@@ -1,12 +1,12 @@
 -- Document 01: what the calls `read_line`, `starts` and `color_ranges` refuse, in its order, and what they write.
 use mathlib.Core.Bool.{Bool, _||_}
-use mathlib.Core.List.{List, [], _∷_, _++_}
+use mathlib.Core.List.{List, [], _∷_}
 use Prim.Native.Nat.{ℕ, _+_, _-_, _%_}
 use lib.ListN.{length}
 use lib.Dec.{eqb, ltb}
 use Rattle.lists.specs.Each.{each}
 use Rattle.refusals.specs.Verdict.{Verdict, accepted, refuse, andThen}
-use Rattle.lines.specs.Clue.{Block, words, blocks, gap, packed, starts, minSpace, positions, ofColor, range}
+use Rattle.lines.specs.Clue.{words, blocks, gap, packed, starts, minSpace, positions, ofColor, range}
 use Rattle.lines.specs.Line.{runs}
 
 -- a width, height or line length that is 0 or over 64

@@ -1,11 +1,10 @@
 -- Document 01, "Line rules": clues, starts, least space, positions, colour ranges, conflict.
 -- What may touch is in `gap` alone; all else is over any gap.
-use mathlib.Core.Bool.{Bool, true, false, cond}
+use mathlib.Core.Bool.{Bool, cond}
 use mathlib.Core.List.{List, [], _∷_, _++_, map}
-use Prim.Native.Nat.{ℕ, suc, _+_, _-_}
-use lib.ListN.{length, getD}
+use Prim.Native.Nat.{ℕ, _+_, _-_}
 use lib.Dec.{eqb, ltb}
-use Rattle.lists.specs.Each.{each, when}
+use Rattle.lists.specs.Each.{when}
 
 pub record Block : Type 0 where
   pub size : ℕ

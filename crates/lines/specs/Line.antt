@@ -1,7 +1,7 @@
 -- Document 01, "Line rules": reading a line, a list of colours with 0 for blank.
-use mathlib.Core.Bool.{Bool, true, false, not, cond}
+use mathlib.Core.Bool.{not, cond}
 use mathlib.Core.List.{List, [], _∷_, _++_}
-use Prim.Native.Nat.{ℕ, zero, suc, _+_}
+use Prim.Native.Nat.{ℕ, _+_}
 use lib.Dec.{eqb}
 use Rattle.lists.specs.Each.{when}
 use Rattle.lines.specs.Clue.{Block}

@@ -1,12 +1,12 @@
 -- The laws of `each`.
 use mathlib.Core.Path.{_≡_, refl, sym, ap, _∙_}
-use mathlib.Core.List.{List, [], _∷_, _++_, append-assoc, append-nil}
-use Prim.Native.Nat.{ℕ, zero, suc, _+_, _-_, _≤_, _<_}
+use mathlib.Core.List.{List, [], _++_, append-assoc, append-nil}
+use Prim.Native.Nat.{ℕ, zero, suc, _+_, _-_, _*_, _≤_, _<_}
 use native.Mathlib.Omega.{arith}
-use native.Mathlib.Nat.{add-zero, add-suc}
-use native.Mathlib.Numerals.{add-one}
+use native.Mathlib.Nat.{add-zero, add-suc, zero-mul, suc-mul}
+use native.Mathlib.Decide.{ℕ-discrete}
 use lib.ListN.{length, getD, length-append, List·getD-append}
-use lib.Seq.{getD-append-seam}
+use lib.Seq.{getD-at}
 use Rattle.lists.specs.Each.{each, tab}
 
 module _ {A : Type 0} where
@@ -43,9 +43,24 @@ module _ {A : Type 0} where
       let e : n - i ≡ 0 = omega arith in
       rw e
 
+  -- ---- lengths
+
+  pub each-length : (n m : ℕ) (f : ℕ → List A) → ((k : ℕ) → length (f k) ≡ m) → length (each n f) ≡ n * m
+  unfolding each
+  each-length zero m f h = sym (zero-mul m)
+  each-length (suc n) m f h = omega (arith, length-append (each n f) (f n), h n, each-length n m f h, suc-mul n m)
+
   -- ---- the list of one element for each number
 
   pub length-tab : (n : ℕ) (f : ℕ → A) → length (tab n f) ≡ n
   unfolding tab each
   length-tab zero f = refl
   length-tab (suc n) f = rw (length-append) (omega (arith, length-tab n f))
+
+  pub getD-tab : (n : ℕ) (f : ℕ → A) (d : A) (t : ℕ) → t < n → getD (tab n f) t d ≡ f t
+  unfolding tab each
+  getD-tab zero f d t h = absurd (omega arith)
+  getD-tab (suc n) f d t h = elim (ℕ-discrete t n) [
+    | yes e ↦ rw e (getD-at (tab n f) (f n) [] d n (length-tab n f))
+    | no e ↦ List·getD-append (tab n f) _ d t (omega (arith, length-tab n f)) ∙ getD-tab n f d t (omega arith)
+  ]

@@ -1,2 +1,4 @@
+pub mod Dropping
 pub mod Eaches
+pub mod Emitting
 pub mod Writing

@@ -1,11 +1,11 @@
 -- The laws of `Wrote`: a store, one writer after another, a loop, a tail that was lent.
 use mathlib.Core.Path.{_≡_, refl, sym, ap, _∙_}
 use mathlib.Core.List.{List, [], _∷_, _++_, append-assoc, append-nil}
-use Prim.Native.Nat.{ℕ, zero, suc, _+_, _-_, _≤_, _<_}
+use Prim.Native.Nat.{ℕ, _+_, _-_, _≤_, _<_}
 use native.Mathlib.Omega.{arith}
-use native.Mathlib.Nat.{add-zero, zero-add, add-assoc, le-refl}
+use native.Mathlib.Nat.{add-zero, zero-add, le-refl}
 use lib.ListN.{length, take, drop, set, take-append-drop, length-append, length-drop, drop-of-length-le}
-use lib.Seq.{take-at, drop-at, drop-drop, length-take-le, take-all, sets, sets-eq, length-sets}
+use lib.Seq.{take-at, drop-at, drop-drop, length-take-le, take-all, sets, sets-eq}
 use borrow.Rule.Slice.PartMut.{putMid}
 use Rattle.lists.specs.Wrote.{Wrote, over}
 
@@ -93,3 +93,11 @@ module _ {A : Type 0} where
     -- nothing is left
     pub fill-done : rest ≡ [] → Wrote whole out₀ at₀ out at
     fill-done e = rw (F .split, e, append-nil) (F .wrote)
+
+  -- a loop that stores one element in a turn
+  module _ {whole out₀ more out : List A} {at₀ at : ℕ} {a : A} (F : Filling whole out₀ at₀ (a ∷ more) out at) where
+    pub fill-space : at < length out
+    fill-space = omega (arith, fill-room F (a ∷ []) more refl)
+
+    pub fill-store : Filling whole out₀ at₀ more (set out at a) (at + 1)
+    fill-store = fill-next F (a ∷ []) more refl (wrote-store out at a fill-space)

@@ -1,1 +1,14 @@
-// No code: the lists that loops make and the words that writers leave, with their laws.
+// The lists that loops make and the words that writers leave, with their laws; and the smallest writer.
+ghost use mathlib.Core.List.{[], _∷_};
+ghost use Prim.Native.Nat.{_+_, _≤_};
+ghost use lib.ListN.{length};
+ghost use Rattle.lists.specs.Wrote.{Wrote};
+
+pub fn put_pair(a: u32, b: u32, out: &mut [u32], at: usize) -> usize
+    requires { ⌜ at + 2 ≤ length (now out) ⌝ }
+    ensures { λ r. ⌜ Wrote (a ∷ b ∷ []) (now (out .entry)) at (now (out .exit)) r ⌝ }
+{
+    out[at] = a;
+    out[at + 1] = b;
+    at + 2
+}

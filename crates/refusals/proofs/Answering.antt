@@ -1,7 +1,9 @@
 -- What a call answers, by the way that it goes: refused by its checks, refused for room, accepted. And that its outcome is determined.
 use mathlib.Core.Path.{_≡_, refl, sym, ap, _∙_}
+use mathlib.Core.Bool.{Bool, true, false}
 use mathlib.Core.List.{List}
 use Prim.Native.Nat.{ℕ, _≤_, _<_}
+use native.Mathlib.Nat.{zero-add}
 use native.Mathlib.Omega.{arith}
 use lib.ListN.{length}
 use borrow.Author.Tests.{lt-ltb, le-ltb}
@@ -11,9 +13,9 @@ use Rattle.refusals.specs.declared.Refusal.{Refusal}
 use Rattle.refusals.specs.declared.Refusal.the-variants.{WordMissing, Size, TooManyBlocks, EmptyBlock, BlockColor, LineTooShort, CellCount, EmptyMask, ColumnColor, SolvedColor, LeftOver, OutputTooShort, ModelLength, ModelByte, FalseClause, TwoColors, OffGrid, ColorTooLarge, ProbeColor, TooManyProbeWords, DimacsLimit, ClauseWords, ProgramInput}
 use Rattle.refusals.specs.declared.Answer.{Answer}
 use Rattle.refusals.specs.declared.Answer.the-variants.{Accepted, Refused}
-use Rattle.refusals.specs.Verdict.{Verdict, accepted, refused, number, place, andThen}
+use Rattle.refusals.specs.Verdict.{Verdict, accepted, refused, number, place, refuse, andThen}
 use Rattle.refusals.specs.Told.{refusal, told}
-use Rattle.refusals.specs.Outcome.{verdict, kept, Answers, Outcome}
+use Rattle.refusals.specs.Outcome.{Answers, Outcome}
 
 pub refusal-is : (why : Refusal) → refusal why ≡ refused (number (refusal why)) (place (refusal why))
 refusal-is (WordMissing p) = refl
@@ -41,25 +43,34 @@ refusal-is (ClauseWords p) = refl
 refusal-is (ProgramInput p) = refl
 
 -- a refusal goes up unchanged
-pub handed-up : (why : Refusal) (v : Verdict) → refusal why ≡ andThen (refusal why) v
-handed-up why v = rw (refusal-is why)
+pub handed-up : {a : Answer} {why : Refusal} → a ≡ Refused why → (v : Verdict) → told a ≡ andThen (told a) v
+handed-up {a} {why} e v = rw (e, refusal-is why)
+
+-- what an acceptance says of the checks before it
+pub refuse-accepted : (b : Bool) (k p : ℕ) {n : ℕ} (v : Verdict) → accepted n ≡ refuse b k p v → (b ≡ false) × (accepted n ≡ v)
+refuse-accepted true k p v e = let z : _≡_ {A = ℕ} 0 1 = cc in absurd (omega arith)
+refuse-accepted false k p v e = (refl, e)
+
+pub then-accepted : (v w : Verdict) {n : ℕ} → accepted n ≡ andThen v w → accepted n ≡ w
+then-accepted (accepted m) w e = e
+then-accepted (refused k p) w e = let z : _≡_ {A = ℕ} 0 1 = cc in absurd (omega arith)
 
 module _ {A : Type 0} (ws out : List A) {checks : Verdict} where
-  pub answers-refused : (why : Refusal) → refusal why ≡ checks → Answers checks ws out (Refused why) out
-  answers-refused why e =
-      let f : checks ≡ refused (number (refusal why)) (place (refusal why)) = sym e ∙ refusal-is why in
-      record { answer-is = refusal-is why ∙ rw f; out-is = rw f }
+  pub answers-refused : {a : Answer} {why : Refusal} → a ≡ Refused why → told a ≡ checks → Answers checks ws out a out
+  answers-refused {a} {why} r e =
+      let f : checks ≡ refused (number (refusal why)) (place (refusal why)) = sym e ∙ ap told r ∙ refusal-is why in
+      record { answer-is = ap told r ∙ refusal-is why ∙ rw f; out-is = rw f }
 
-  module _ {n : ℕ} (e : accepted n ≡ checks) {need : ℕ} (l : need ≡ length ws) where
-    pub answers-short : length out < need → Answers checks ws out (Refused (OutputTooShort need)) out
-    answers-short h =
+  module _ {n : ℕ} (e : accepted n ≡ checks) where
+    pub answers-short : {need : ℕ} → need ≡ length ws → length out < need → Answers checks ws out (Refused (OutputTooShort need)) out
+    answers-short l h =
         let h′ : length out < length ws = omega arith in
         record { answer-is = rw (← e, lt-ltb _ _ h′, l); out-is = rw (← e, lt-ltb _ _ h′) }
 
-    pub answers-wrote : need ≤ length out → {out′ : List A} → Wrote ws out 0 out′ need → Answers checks ws out (Accepted need) out′
+    pub answers-wrote : length ws ≤ length out → {out′ : List A} {used : ℕ} → Wrote ws out 0 out′ used → Answers checks ws out (Accepted used) out′
     answers-wrote h w =
-        let h′ : length ws ≤ length out = omega arith in
-        record { answer-is = rw (← e, le-ltb _ _ h′, l); out-is = rw (← e, le-ltb _ _ h′) (wrote-over w) }
+        let used-is = w .next-is ∙ zero-add (length ws) in
+        record { answer-is = rw (← e, le-ltb _ _ h, used-is); out-is = rw (← e, le-ltb _ _ h) (wrote-over w) }
 
   pub outcome-of : {answer : Answer} {out′ : List A} → Answers checks ws out answer out′ → {n p : ℕ} → n ≡ number (told answer) → p ≡ place (told answer)
       → Outcome checks ws out n p out′

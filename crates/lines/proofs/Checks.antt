@@ -1,0 +1,104 @@
+-- What the checks of a clue and of a line give, by the way that they go; and what holds of a clue that they accept.
+use mathlib.Core.Path.{_≡_, refl}
+use mathlib.Core.Bool.{Bool, true, false, true≢false}
+use mathlib.Core.List.{List}
+use Prim.Native.Nat.{ℕ, _+_, _%_, _≤_, _<_}
+use native.Mathlib.Omega.{arith}
+use lib.ListN.{length, drop, getD, drop-of-length-le}
+use lib.Dec.{eqb, ltb}
+use borrow.Author.Tests.{eq-eqb, ne-eqb, lt-ltb, le-ltb, eqb-false, ltb-false}
+use Rattle.lists.proofs.Dropping.{drop-one}
+use Rattle.refusals.specs.Verdict.{accepted, refused}
+use Rattle.refusals.specs.Told.{told}
+use Rattle.refusals.specs.declared.Refusal.{Refusal}
+use Rattle.refusals.specs.declared.Answer.{Answer}
+use Rattle.refusals.specs.declared.Answer.the-variants.{Refused}
+use Rattle.refusals.proofs.Answering.{handed-up, refuse-accepted, then-accepted}
+use Rattle.lines.specs.Clue.{blocks, gap, minSpace}
+use Rattle.lines.specs.Calls.{offSize, blockChecks, clueChecks, byteChecks, lineChecks}
+
+-- ---- a clue
+
+module _ (n : ℕ) (clue : List ℕ) where
+  pub size-refused : offSize n ≡ true → refused 2 0 ≡ clueChecks n clue
+  unfolding clueChecks
+  size-refused s = rw s
+
+  module _ (s : offSize n ≡ false) where
+    pub odd-refused : length clue % 2 ≡ 1 → refused 1 (length clue) ≡ clueChecks n clue
+    unfolding clueChecks
+    odd-refused e = rw (s, eq-eqb _ _ e)
+
+    module _ (e : length clue % 2 ≡ 1 → ⊥) where
+      pub many-refused : 128 < length clue → refused 3 0 ≡ clueChecks n clue
+      unfolding clueChecks
+      many-refused h = rw (s, ne-eqb _ _ e, lt-ltb _ _ h)
+
+      module _ (h : length clue ≤ 128) where
+        pub block-refused : {a : Answer} {why : Refusal} → a ≡ Refused why → told a ≡ blockChecks 0 clue → told a ≡ clueChecks n clue
+        unfolding clueChecks
+        block-refused r b = rw (s, ne-eqb _ _ e, le-ltb _ _ h, ← b) (handed-up r _)
+
+        module _ {k : ℕ} (b : accepted k ≡ blockChecks 0 clue) {space : ℕ} (m : space ≡ minSpace gap (blocks clue)) where
+          pub short-refused : n < space → refused 6 0 ≡ clueChecks n clue
+          unfolding clueChecks
+          short-refused l = rw (s, ne-eqb _ _ e, le-ltb _ _ h, ← b, ← m, lt-ltb _ _ l)
+
+          pub clue-accepted : space ≤ n → accepted space ≡ clueChecks n clue
+          unfolding clueChecks
+          clue-accepted l = rw (s, ne-eqb _ _ e, le-ltb _ _ h, ← b, ← m, le-ltb _ _ l)
+
+pub size-within : (n : ℕ) → offSize n ≡ false → (0 < n) × (n ≤ 64)
+size-within n e = go (eqb n 0) refl e
+  where
+    go : (b : Bool) → eqb n 0 ≡ b → offSize n ≡ false → (0 < n) × (n ≤ 64)
+    go true p e = absurd (true≢false (rw p at e))
+    go false p e = (omega (arith, eqb-false n 0 p), ltb-false 64 n (rw p at e))
+
+pub record ClueOk (n : ℕ) (clue : List ℕ) (space : ℕ) : Type 0 where
+  pub some : 0 < n
+  pub most : n ≤ 64
+  pub few : length clue ≤ 128
+  pub space-is : space ≡ minSpace gap (blocks clue)
+  pub fits : space ≤ n
+
+pub clue-ok : (n : ℕ) (clue : List ℕ) (space : ℕ) → accepted space ≡ clueChecks n clue → ClueOk n clue space
+unfolding clueChecks
+clue-ok n clue space e =
+    let a = refuse-accepted (offSize n) _ _ _ e in
+    let b = refuse-accepted (eqb (length clue % 2) 1) _ _ _ (a .1) in
+    let c = refuse-accepted (ltb 128 (length clue)) _ _ _ (b .1) in
+    let d = refuse-accepted (ltb n (minSpace gap (blocks clue))) _ _ _ (then-accepted (blockChecks 0 clue) _ (c .1)) in
+    let same : space ≡ minSpace gap (blocks clue) = cc in
+    record {
+      some = size-within n (a .0) .0;
+      most = size-within n (a .0) .1;
+      few = ltb-false _ _ (c .0);
+      space-is = same;
+      fits = omega (arith, ltb-false n (minSpace gap (blocks clue)) (d .0));
+    }
+
+-- ---- a line
+
+module _ (l : List ℕ) (i : ℕ) where
+  module _ (h : i < length l) where
+    pub byte-refused : 31 < getD l i 0 → byteChecks i (drop i l) ≡ refused 18 i
+    unfolding byteChecks
+    byte-refused e = rw (drop-one 0 l i h, lt-ltb _ _ e)
+
+    pub byte-next : getD l i 0 ≤ 31 → byteChecks i (drop i l) ≡ byteChecks (i + 1) (drop (i + 1) l)
+    unfolding byteChecks
+    byte-next e = rw (drop-one 0 l i h, le-ltb _ _ e)
+
+  pub byte-done : length l ≤ i → byteChecks i (drop i l) ≡ accepted 0
+  unfolding byteChecks
+  byte-done h = rw (drop-of-length-le l h)
+
+module _ (line : List ℕ) where
+  pub length-refused : offSize (length line) ≡ true → refused 2 0 ≡ lineChecks line
+  unfolding lineChecks
+  length-refused s = rw s
+
+  pub length-passed : offSize (length line) ≡ false → byteChecks 0 line ≡ lineChecks line
+  unfolding lineChecks
+  length-passed s = rw s

@@ -1,0 +1,10 @@
+pub mod Arranging
+pub mod Checks
+pub mod ClueWords
+pub mod Laying
+pub mod LineCells
+pub mod Moving
+pub mod Packing
+pub mod Ranges
+pub mod Reading
+pub mod Rendering

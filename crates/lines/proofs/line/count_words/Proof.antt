@@ -1,0 +1,32 @@
+use mathlib.Core.Path.{_≡_, refl}
+use mathlib.Core.Logic.{⊎-elim}
+use native.Mathlib.Omega.{arith}
+use Prim.Native.Nat.{_-_}
+use lib.ListN.{length}
+use Rattle.lines.proofs.LineCells.{Counting, counting-first, counting-same, counting-some, counting-blank, counting-done}
+use borrow.Author.Needs.{needs}
+use Rattle.lines.proofs.line.count_words.Statement.{statement}
+use Rattle.lines.proofs.line.count_words.Tie as tie
+
+abbrev Inv-loop : tie.InvT-loop
+Inv-loop line count₀ color₀ i₀ i-end count color i = (i-end ≡ length line) × Counting line count color i
+
+abbrev μ-loop : tie.MeasureT-loop
+μ-loop line count₀ color₀ i₀ i-end count color i = length line - i
+
+pub count-words-spec : {M : Type 1} → statement M
+count-words-spec =
+    tie.close
+    (tie.spec
+    Inv-loop
+    μ-loop
+    (λ c. (refl, counting-first _))
+    (λ c. search needs)
+    (λ c. search needs)
+    (λ c. search needs)
+    (λ c. (search needs, counting-same (c .before .before .before .loop .inv .1) (omega arith) (c .if1 .taken)))
+    (λ c. search needs)
+    (λ c. search needs)
+    (λ c. search needs)
+    (λ c. (refl, ⊎-elim (λ w. rw (w .1) (counting-some (c .before .before .before .before .loop .inv .1) (omega arith) (c .before .if1 .left) (w .0 .taken))) (λ w. rw (w .1) (counting-blank (c .before .before .before .before .loop .inv .1) (omega arith) (c .before .if1 .left) (w .0 .left))) (c .if2 .came)))
+    (λ c. counting-done (c .before .loop .inv .1) (omega arith)))

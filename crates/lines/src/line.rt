@@ -1,0 +1,96 @@
+// Reading one line of colour bytes.
+use crate::off_size;
+use lists::put_pair;
+use refusals::Answer;
+use refusals::Refusal;
+ghost use mathlib.Core.Path.{_≡_};
+ghost use Prim.Native.Nat.{_+_, _≤_};
+ghost use lib.ListN.{length};
+ghost use Rattle.lists.specs.Wrote.{Wrote};
+ghost use Rattle.refusals.specs.Told.{told};
+ghost use Rattle.refusals.specs.Outcome.{Answers};
+ghost use Rattle.lines.specs.Clue.{words};
+ghost use Rattle.lines.specs.Line.{run};
+ghost use Rattle.lines.specs.Calls.{byteChecks, lineChecks, lineWords};
+
+// The first byte that is no colour.
+pub fn check_bytes(line: &[u8]) -> Answer
+    ensures { λ r. ⌜ told r ≡ byteChecks 0 (now (line .entry)) ⌝ }
+{
+    for i in 0..line.len() {
+        if 31 < line[i] {
+            return Answer::Refused(Refusal::ColorTooLarge(i));
+        }
+    }
+    Answer::Accepted(0)
+}
+
+// How many words the runs of a line take: two for each cell that begins one.
+fn count_words(line: &[u8]) -> usize
+    requires { ⌜ length (now line) ≤ 64 ⌝ }
+    ensures { λ r. ⌜ r ≡ length (lineWords (now (line .entry))) ⌝ }
+{
+    let mut count = 0;
+    let mut color: u8 = 0;
+    for i in 0..line.len() {
+        let x = line[i];
+        if x == color {
+            continue;
+        }
+        if x != 0 {
+            count += 2;
+        }
+        color = x;
+    }
+    count
+}
+
+// Writes a run that has ended, where it is not blank.
+fn put_run(size: u32, color: u8, out: &mut [u32], at: usize) -> usize
+    requires { ⌜ at + length (words (run size color)) ≤ length (now out) ⌝ }
+    ensures { λ r. ⌜ Wrote (words (run size color)) (now (out .entry)) at (now (out .exit)) r ⌝ }
+{
+    if color == 0 {
+        return at;
+    }
+    put_pair(size, color as u32, out, at)
+}
+
+// Writes the runs of a line.
+fn from_line(line: &[u8], out: &mut [u32]) -> usize
+    requires { ⌜ (length (now line) ≤ 64) × (length (lineWords (now line)) ≤ length (now out)) ⌝ }
+    ensures { λ r. ⌜ Wrote (lineWords (now (line .entry))) (now (out .entry)) 0 (now (out .exit)) r ⌝ }
+{
+    let mut at = 0;
+    let mut size: u32 = 0;
+    let mut color: u8 = 0;
+    for i in 0..line.len() {
+        let x = line[i];
+        if x == color {
+            size += 1;
+            continue;
+        }
+        at = put_run(size, color, out, at);
+        size = 1;
+        color = x;
+    }
+    put_run(size, color, out, at)
+}
+
+// The maximal runs of one non-blank colour, as size and colour pairs.
+pub fn read_line(line: &[u8], out: &mut [u32]) -> Answer
+    ensures { λ r. ⌜ Answers (lineChecks (now (line .entry))) (lineWords (now (line .entry))) (now (out .entry)) r (now (out .exit)) ⌝ }
+{
+    if off_size(line.len()) {
+        return Answer::Refused(Refusal::Size(0));
+    }
+    let checked = check_bytes(line);
+    let Answer::Accepted(_) = checked else {
+        return checked;
+    };
+    let need = count_words(line);
+    if out.len() < need {
+        return Answer::Refused(Refusal::OutputTooShort(need));
+    }
+    Answer::Accepted(from_line(line, out))
+}
