@@ -1,0 +1,49 @@
+// The C entries: each hands its arguments to the crate that does the work, and the answer's number and place to the caller.
+ghost use mathlib.Core.Path.{_≡_};
+ghost use Rattle.refusals.specs.Verdict.{accepted};
+ghost use Rattle.refusals.specs.Outcome.{Outcome};
+ghost use Rattle.bits.specs.Bits.{powers, joined};
+ghost use Rattle.lines.specs.Calls.{lineChecks, lineWords, clueChecks, startsWords, rangesWords};
+
+#[no_mangle]
+pub extern "C" fn haafgrim_two_powers(mask: u32, out: &mut [u32], place: &mut usize) -> u32
+    ensures { λ r. ⌜ Outcome (accepted 0) (powers mask) (now (out .entry)) r (now (place .exit)) (now (out .exit)) ⌝ }
+{
+    let answer = bits::powers::two_powers(mask, out);
+    *place = answer.place();
+    answer.number()
+}
+
+#[no_mangle]
+pub extern "C" fn haafgrim_from_two_powers(words: &[u32]) -> u32
+    ensures { λ r. ⌜ r ≡ joined (now (words .entry)) ⌝ }
+{
+    bits::powers::from_two_powers(words)
+}
+
+#[no_mangle]
+pub extern "C" fn haafgrim_read_line(line: &[u8], out: &mut [u32], place: &mut usize) -> u32
+    ensures { λ r. ⌜ Outcome (lineChecks (now (line .entry))) (lineWords (now (line .entry))) (now (out .entry)) r (now (place .exit)) (now (out .exit)) ⌝ }
+{
+    let answer = lines::line::read_line(line, out);
+    *place = answer.place();
+    answer.number()
+}
+
+#[no_mangle]
+pub extern "C" fn haafgrim_starts(length: usize, clue: &[u32], out: &mut [u32], place: &mut usize) -> u32
+    ensures { λ r. ⌜ Outcome (clueChecks length (now (clue .entry))) (startsWords length (now (clue .entry))) (now (out .entry)) r (now (place .exit)) (now (out .exit)) ⌝ }
+{
+    let answer = lines::clue::starts(length, clue, out);
+    *place = answer.place();
+    answer.number()
+}
+
+#[no_mangle]
+pub extern "C" fn haafgrim_color_ranges(length: usize, clue: &[u32], out: &mut [u32], place: &mut usize) -> u32
+    ensures { λ r. ⌜ Outcome (clueChecks length (now (clue .entry))) (rangesWords length (now (clue .entry))) (now (out .entry)) r (now (place .exit)) (now (out .exit)) ⌝ }
+{
+    let answer = lines::range::color_ranges(length, clue, out);
+    *place = answer.place();
+    answer.number()
+}
