@@ -31,7 +31,12 @@ pub extern "C" fn haafgrim_read_line(line: &[u8], out: &mut [u32], place: &mut u
 }
 
 #[no_mangle]
-pub extern "C" fn haafgrim_starts(length: usize, clue: &[u32], out: &mut [u32], place: &mut usize) -> u32
+pub extern "C" fn haafgrim_starts(
+    length: usize,
+    clue: &[u32],
+    out: &mut [u32],
+    place: &mut usize,
+) -> u32
     ensures { λ r. ⌜ Outcome (clueChecks length (now (clue .entry))) (startsWords length (now (clue .entry))) (now (out .entry)) r (now (place .exit)) (now (out .exit)) ⌝ }
 {
     let answer = lines::clue::starts(length, clue, out);
@@ -40,7 +45,12 @@ pub extern "C" fn haafgrim_starts(length: usize, clue: &[u32], out: &mut [u32], 
 }
 
 #[no_mangle]
-pub extern "C" fn haafgrim_color_ranges(length: usize, clue: &[u32], out: &mut [u32], place: &mut usize) -> u32
+pub extern "C" fn haafgrim_color_ranges(
+    length: usize,
+    clue: &[u32],
+    out: &mut [u32],
+    place: &mut usize,
+) -> u32
     ensures { λ r. ⌜ Outcome (clueChecks length (now (clue .entry))) (rangesWords length (now (clue .entry))) (now (out .entry)) r (now (place .exit)) (now (out .exit)) ⌝ }
 {
     let answer = lines::range::color_ranges(length, clue, out);

@@ -65,14 +65,14 @@ fn from_line(line: &[u8], out: &mut [u32]) -> usize
     let mut size: u32 = 0;
     let mut color: u8 = 0;
     for i in 0..line.len() {
-        let x = line[i];
-        if x == color {
+        let next = line[i];
+        if next == color {
             size += 1;
             continue;
         }
         at = put_run(size, color, out, at);
         size = 1;
-        color = x;
+        color = next;
     }
     put_run(size, color, out, at)
 }

@@ -8,7 +8,6 @@ use Rattle.lines.proofs.range.color_ranges.Reads as color-ranges-reads
 use Rattle.refusals.proofs.Answer.number.Reads as number-reads
 use Rattle.refusals.proofs.Answer.place.Reads as place-reads
 
-
 color-ranges-requires : tie.Need-color-ranges-requires
 color-ranges-requires c κs = search needs
 

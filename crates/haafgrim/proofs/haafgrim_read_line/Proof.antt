@@ -8,7 +8,6 @@ use Rattle.lines.proofs.line.read_line.Reads as read-line-reads
 use Rattle.refusals.proofs.Answer.number.Reads as number-reads
 use Rattle.refusals.proofs.Answer.place.Reads as place-reads
 
-
 read-line-requires : tie.Need-read-line-requires
 read-line-requires c κs = search needs
 

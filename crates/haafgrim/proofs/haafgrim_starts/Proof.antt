@@ -8,7 +8,6 @@ use Rattle.lines.proofs.clue.starts.Reads as starts-reads
 use Rattle.refusals.proofs.Answer.number.Reads as number-reads
 use Rattle.refusals.proofs.Answer.place.Reads as place-reads
 
-
 starts-requires : tie.Need-starts-requires
 starts-requires c κs = search needs
 

@@ -8,7 +8,6 @@ use Rattle.bits.proofs.powers.two_powers.Reads as two-powers-reads
 use Rattle.refusals.proofs.Answer.number.Reads as number-reads
 use Rattle.refusals.proofs.Answer.place.Reads as place-reads
 
-
 two-powers-requires : tie.Need-two-powers-requires
 two-powers-requires c κs = search needs
 

@@ -1,0 +1,11 @@
+use borrow.Author.Needs.{needs}
+use mathlib.Core.Path.{_∙_}
+use Rattle.literals.proofs.Words.{word-is}
+use Rattle.literals.proofs.yes.Statement.{statement}
+use Rattle.literals.proofs.yes.Tie as tie
+
+pub yes-spec : {M : Type 1} → statement M
+yes-spec = tie.close (tie.spec
+    (λ c κs. search needs)
+    (λ c κs. search needs)
+    (λ c. word-is _ (c .as-word .ok) ∙ c .as-word .ensures ∙ c .before .positive .ensures))

@@ -1,0 +1,45 @@
+/* Haafgrim: the checked core of puzzle publishing. Link with libhaafgrim.a (`rt staticlib haafgrim`).
+ *
+ * Every entry takes any input at all and needs no earlier call. It answers a number and, through `place`, a place:
+ *   0        accepted; the place is how many words were written, from the front of `out` on, and the rest of `out` is as it was;
+ *   others   refused, with the number and the place of the table in docs/STATEMENTS.md; nothing of `out` is changed.
+ * `*place` is set on every answer.
+ *
+ * A slice is a pointer and then its length in elements; where the length is 0 the pointer is not used and may be NULL.
+ * `place` points to one writable size_t. The lent memory, `out` and `*place`, overlaps neither the inputs nor each other.
+ * The entries keep no state: they may run at the same time on different memory.
+ */
+#ifndef HAAFGRIM_H
+#define HAAFGRIM_H
+
+#include <stddef.h>
+#include <stdint.h>
+
+#ifdef __cplusplus
+extern "C" {
+#endif
+
+/* The set bits of a mask as powers of two, lowest first.
+ * Needs as many words as bits are set (32 are always enough). Refuses: 12. */
+uint32_t haafgrim_two_powers(uint32_t mask, uint32_t *out, size_t out_len, size_t *place);
+
+/* The words joined by or; 0 for none. Answers the mask itself and never refuses. */
+uint32_t haafgrim_from_two_powers(const uint32_t *words, size_t words_len);
+
+/* The maximal runs of one non-blank colour in a line of colour bytes (0 is blank), as size and colour pairs.
+ * Needs two words a run (64 are always enough). Refuses: 2, 18, 12. */
+uint32_t haafgrim_read_line(const uint8_t *line, size_t line_len, uint32_t *out, size_t out_len, size_t *place);
+
+/* For a clue, given as a size and a colour for each block, on a line of `length` cells: the positions of each block, the least space,
+ * then the start of each block. Needs two words and one a block (66 are always enough). Refuses: 2, 1, 3, 4, 5, 6, 12. */
+uint32_t haafgrim_starts(size_t length, const uint32_t *clue, size_t clue_len, uint32_t *out, size_t out_len, size_t *place);
+
+/* For the same clue, for each colour 1 to 31, the first cell that it can have and the cell after the last; zeros where the clue lacks it.
+ * Needs 62 words. Refuses: 2, 1, 3, 4, 5, 6, 12. */
+uint32_t haafgrim_color_ranges(size_t length, const uint32_t *clue, size_t clue_len, uint32_t *out, size_t out_len, size_t *place);
+
+#ifdef __cplusplus
+}
+#endif
+
+#endif
