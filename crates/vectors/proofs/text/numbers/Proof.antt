@@ -1,0 +1,42 @@
+use mathlib.Core.Path.{_≡_}
+use Prim.Native.Nat.{_-_, _≤_}
+use lib.ListN.{length, length-set}
+use borrow.Author.Needs.{needs}
+use Rattle.vectors.proofs.text.numbers.Statement.{statement}
+use Rattle.vectors.proofs.text.numbers.Tie as tie
+
+abbrev Inv-loop : tie.InvT-loop
+Inv-loop line out₀ count₀ i₀ out count i = (i ≤ length line) × ((count ≤ length out) × (length out ≡ length out₀))
+
+abbrev μ-loop : tie.MeasureT-loop
+μ-loop line out₀ count₀ i₀ out count i = length line - i
+
+pub numbers-spec : {M : Type 1} → statement M
+numbers-spec =
+    tie.close
+    (tie.spec
+    Inv-loop
+    μ-loop
+    (λ c. search needs)
+    (λ c. search needs)
+    (λ c. search needs)
+    (λ c. search needs)
+    (λ c. search needs)
+    (λ c. search needs)
+    (λ c. search needs)
+    (λ c. simp length-set (search needs))
+    (λ c. search needs)
+    (λ c. search needs)
+    (λ c. search needs)
+    (λ c. search needs)
+    (λ c. search needs)
+    (λ c κs. search needs)
+    (λ c. search needs)
+    (λ c. search needs)
+    (λ c. search needs)
+    (λ c. search needs)
+    (λ c. search needs)
+    (λ c. search needs)
+    (λ c. search needs)
+    (λ c. search needs)
+    (λ c. search needs))
