@@ -1,0 +1,440 @@
+/* Holds every answer of the C entries against expectations from elsewhere: small lines and clues by trying every line
+ * there is, the rest by hand. Ends at the first wrong answer, with status 1. */
+#include "haafgrim.h"
+#include <stdio.h>
+#include <stdlib.h>
+#include <string.h>
+
+#define COUNT(array) (sizeof(array) / sizeof *(array))
+#define WORDS(...) COUNT(((uint32_t[]){__VA_ARGS__})), {__VA_ARGS__}
+
+enum { PAD = 4, ROOM = 132, RANGES = 62 };
+enum entry { TWO_POWERS, FROM_TWO_POWERS, READ_LINE, STARTS, COLOR_RANGES };
+static const char *const names[] = {"two_powers", "from_two_powers", "read_line", "starts", "color_ranges"};
+
+/* `scalar` is the mask of two_powers and the line length of a clue. */
+struct call { enum entry entry; size_t scalar; const void *in; size_t in_len; };
+
+/* The answer where the lent buffer is long enough: a refusal and its place, or the words written. */
+struct want { uint32_t number; size_t place; size_t count; uint32_t words[ROOM]; };
+
+/* The answer and all memory that a call is shown, with words around what it is lent. */
+struct world { size_t number; size_t place[3]; uint32_t in[ROOM]; uint32_t out[PAD + ROOM + PAD]; };
+_Static_assert(sizeof(struct world) == 4 * sizeof(size_t) + 4 * (ROOM + PAD + ROOM + PAD), "memcmp compares no gaps");
+
+static unsigned long checks;
+
+/* What lies behind the input is no colour, so that reading it would show. */
+static void prepare(struct world *w, const struct call *c) {
+    w->number = 0;
+    memset(w->in, 0x55, sizeof w->in);
+    if (c->in_len != 0)
+        memcpy(w->in, c->in, c->entry == READ_LINE ? c->in_len : c->in_len * sizeof(uint32_t));
+    w->place[0] = w->place[1] = w->place[2] = 7000;
+    for (uint32_t i = 0; i < COUNT(w->out); i++)
+        w->out[i] = 0xA5000000u + i;
+}
+
+static void foresee(struct world *w, const struct want *x, size_t out_len) {
+    w->number = x->number != 0 ? x->number : out_len < x->count ? 12 : 0;
+    w->place[1] = x->number != 0 ? x->place : x->count;
+    if (w->number == 0)
+        memcpy(w->out + PAD, x->words, x->count * sizeof(uint32_t));
+}
+
+/* With `nulls`, a slice of length 0 is a null pointer. */
+static uint32_t perform(struct world *w, const struct call *c, size_t out_len, int nulls) {
+    uint32_t *out = nulls && out_len == 0 ? NULL : w->out + PAD;
+    const uint32_t *in = nulls && c->in_len == 0 ? NULL : w->in;
+    size_t *place = &w->place[1];
+    switch (c->entry) {
+    case TWO_POWERS: return haafgrim_two_powers((uint32_t)c->scalar, out, out_len, place);
+    case FROM_TWO_POWERS: *place = 0; return haafgrim_from_two_powers(in, c->in_len);
+    case READ_LINE: return haafgrim_read_line((const uint8_t *)in, c->in_len, out, out_len, place);
+    case STARTS: return haafgrim_starts(c->scalar, in, c->in_len, out, out_len, place);
+    default: return haafgrim_color_ranges(c->scalar, in, c->in_len, out, out_len, place);
+    }
+}
+
+static void fail(const struct call *c, size_t out_len, const struct world *want, const struct world *got) {
+    printf("wrong: %s, mask or length %zu, lent %zu words, input of %zu:", names[c->entry], c->scalar, out_len, c->in_len);
+    for (size_t i = 0; i < c->in_len; i++)
+        printf(" %u", c->entry == READ_LINE ? ((const uint8_t *)c->in)[i] : ((const uint32_t *)c->in)[i]);
+    printf("\nwanted %zu at %zu, got %zu at %zu\n", want->number, want->place[1], got->number, got->place[1]);
+    for (size_t i = 0; i < COUNT(got->out); i++)
+        if (want->out[i] != got->out[i])
+            printf("word %d of the buffer: wanted %u, got %u\n", (int)i - PAD, want->out[i], got->out[i]);
+    if (memcmp(want->in, got->in, sizeof got->in) != 0)
+        printf("the input was changed\n");
+    if (want->place[0] != got->place[0] || want->place[2] != got->place[2])
+        printf("what lies around the place was changed\n");
+    exit(1);
+}
+
+static void check_once(struct call c, const struct want *x, size_t out_len, int nulls) {
+    struct world want, got;
+    prepare(&want, &c);
+    got = want;
+    foresee(&want, x, out_len);
+    got.number = perform(&got, &c, out_len, nulls);
+    checks++;
+    if (memcmp(&want, &got, sizeof got) != 0)
+        fail(&c, out_len, &want, &got);
+}
+
+/* With every length of the lent buffer: up to one more than needed, or all where the call is refused. */
+static void check(struct call c, const struct want *x) {
+    size_t most = x->number != 0 ? ROOM : x->count + 1;
+    for (size_t out_len = 0; out_len <= most; out_len++) {
+        check_once(c, x, out_len, 0);
+        if (out_len == 0 || (c.in != NULL && c.in_len == 0))
+            check_once(c, x, out_len, 1);
+    }
+}
+
+static void push(struct want *x, uint32_t word) {
+    x->words[x->count++] = word;
+}
+
+static uint32_t power(uint32_t base, size_t n) {
+    return n == 0 ? 1 : base * power(base, n - 1);
+}
+
+/* Xorshift from a fixed seed: each run makes the same checks. */
+static uint32_t random_word(void) {
+    static uint32_t state = 20240229;
+    state ^= state << 13;
+    state ^= state >> 17;
+    return state ^= state << 5;
+}
+
+/* ---- Lines ---- */
+
+/* A run begins where the cell before has another colour, and takes all cells of its colour from there on. */
+static void read_naively(const uint8_t *line, size_t n, struct want *runs, uint32_t *begins) {
+    for (size_t from = 0; from < n; from++) {
+        size_t to = from;
+        if (line[from] == 0 || (from > 0 && line[from - 1] == line[from]))
+            continue;
+        while (to < n && line[to] == line[from])
+            to++;
+        begins[runs->count / 2] = (uint32_t)from;
+        push(runs, (uint32_t)(to - from));
+        push(runs, line[from]);
+    }
+}
+
+/* Refused, or else read as it is naively. */
+static void check_line(const uint8_t *line, size_t n, uint32_t number, size_t place) {
+    struct want x = {.number = number, .place = place};
+    uint32_t begins[64];
+    if (number == 0)
+        read_naively(line, n, &x, begins);
+    check((struct call){READ_LINE, 0, line, n}, &x);
+}
+
+/* The line numbered `code` of all lines of n cells over 0, 1, 2. */
+static void small_line(uint8_t *line, size_t n, uint32_t code) {
+    for (size_t i = 0; i < n; i++)
+        line[i] = (uint8_t)(code / power(3, i) % 3);
+}
+
+static void small_lines(void) {
+    uint8_t line[6];
+    for (size_t n = 1; n <= 6; n++)
+        for (uint32_t code = 0; code < power(3, n); code++) {
+            small_line(line, n, code);
+            check_line(line, n, 0, 0);
+        }
+}
+
+static void long_lines(void) {
+    uint8_t line[64] = {0};
+    struct want turns = {0};
+    check_line(line, 64, 0, 0);
+    check_line(memset(line, 31, 64), 64, 0, 0);
+    for (size_t i = 0; i < 64; i++) {
+        push(&turns, 1);
+        push(&turns, line[i] = 1 + i % 2);
+    }
+    check((struct call){READ_LINE, 0, line, 64}, &turns);
+    for (int round = 0; round < 300; round++) {
+        for (size_t i = 0; i < 64; i++)
+            line[i] = random_word() % (round % 3 == 0 ? 32 : 3);
+        check_line(line, 1 + random_word() % 64, 0, 0);
+    }
+}
+
+/* A byte over 31 at each place, alone and with another one behind it; a wrong length comes before both. */
+static void refused_lines(void) {
+    static const size_t lengths[] = {0, 65, 66, 257, 320};
+    uint8_t line[320];
+    for (size_t n = 1; n <= 64; n += 21)
+        for (size_t at = 0; at < n; at++) {
+            memset(line, 31, n);
+            line[at] = at % 2 == 0 ? 32 : 255;
+            check_line(line, n, 18, at);
+            line[n - 1] = 255;
+            check_line(line, n, 18, at);
+        }
+    for (size_t i = 0; i < COUNT(lengths); i++) {
+        check_line(memset(line, 31, sizeof line), lengths[i], 2, 0);
+        check_line(memset(line, 32, sizeof line), lengths[i], 2, 0);
+    }
+}
+
+/* ---- Clues, by trying every line ---- */
+
+static void check_clue(size_t n, const uint32_t *clue, size_t words, const struct want *starts, const struct want *ranges) {
+    check((struct call){STARTS, n, clue, words}, starts);
+    check((struct call){COLOR_RANGES, n, clue, words}, ranges);
+}
+
+static void check_refused(size_t n, const uint32_t *clue, size_t words, uint32_t number, size_t place) {
+    struct want x = {.number = number, .place = place};
+    check_clue(n, clue, words, &x, &x);
+}
+
+/* The least and the greatest of some numbers; `least` is 99 for none. */
+struct span { uint32_t least, greatest; };
+
+static void widen(struct span *s, uint32_t x) {
+    s->least = x < s->least ? x : s->least;
+    s->greatest = x > s->greatest ? x : s->greatest;
+}
+
+/* Over all lines that read as the clue: the starts of each block and the cells of each colour. Answers how many there are. */
+static size_t try_lines(size_t n, const uint32_t *clue, size_t words, struct span *starts, struct span *cells) {
+    size_t found = 0;
+    for (uint32_t code = 0; code < power(3, n); code++) {
+        uint8_t line[6];
+        uint32_t begins[6];
+        struct want runs = {0};
+        small_line(line, n, code);
+        read_naively(line, n, &runs, begins);
+        if (runs.count != words || memcmp(runs.words, clue, words * sizeof *clue) != 0)
+            continue;
+        found++;
+        for (size_t b = 0; b < words / 2; b++)
+            widen(&starts[b], begins[b]);
+        for (uint32_t i = 0; i < n; i++)
+            widen(&cells[line[i]], i);
+    }
+    return found;
+}
+
+/* The call names one p for all blocks; where a block had another number of starts, 99 would be wanted, which never comes. */
+static void small_clue(uint32_t n, const uint32_t *clue, size_t blocks) {
+    struct span s[3] = {{99, 0}, {99, 0}, {99, 0}}, cells[3] = {{99, 0}, {99, 0}, {99, 0}};
+    struct want starts = {.count = 2}, ranges = {.count = RANGES};
+    if (try_lines(n, clue, 2 * blocks, s, cells) == 0) {
+        check_refused(n, clue, 2 * blocks, 6, 0);
+        return;
+    }
+    starts.words[0] = blocks == 0 ? n + 1 : s[0].greatest - s[0].least + 1;
+    starts.words[1] = n + 1 - starts.words[0];
+    for (size_t b = 0; b < blocks; b++)
+        push(&starts, s[b].greatest == s[b].least + starts.words[0] - 1 ? s[b].least : 99);
+    for (size_t k = 1; k <= 2; k++)
+        if (cells[k].least != 99) {
+            ranges.words[2 * k - 2] = cells[k].least;
+            ranges.words[2 * k - 1] = cells[k].greatest + 1;
+        }
+    check_clue(n, clue, 2 * blocks, &starts, &ranges);
+}
+
+static void small_clues(void) {
+    uint32_t clue[6];
+    for (uint32_t n = 1; n <= 6; n++)
+        for (size_t blocks = 0; blocks <= 3; blocks++)
+            for (uint32_t code = 0; code < power(6, blocks); code++) {
+                for (size_t b = 0; b < blocks; b++) {
+                    clue[2 * b] = 1 + code / power(6, b) % 3;
+                    clue[2 * b + 1] = 1 + code / power(6, b) / 3 % 2;
+                }
+                small_clue(n, clue, blocks);
+            }
+}
+
+/* ---- Clues by hand ---- */
+
+/* P3 and P4 name no length, so they are taken at the least and the greatest. A range is a colour, a first cell and an end. */
+static void by_hand(void) {
+    static const struct { size_t length, words; uint32_t clue[6], starts[5], ranges[2][3]; } rows[] = {
+        {3, WORDS(1, 1, 1, 1), {1, 3, 0, 2}, {{1, 0, 3}}},                               /* P3 */
+        {64, WORDS(1, 1, 1, 1), {62, 3, 0, 2}, {{1, 0, 64}}},                            /* P3 */
+        {3, WORDS(1, 1, 1, 2, 1, 1), {1, 3, 0, 1, 2}, {{1, 0, 3}, {2, 1, 2}}},           /* P4 */
+        {64, WORDS(1, 1, 1, 2, 1, 1), {62, 3, 0, 1, 2}, {{1, 0, 64}, {2, 1, 63}}},       /* P4 */
+        {4, WORDS(2, 1, 1, 2), {2, 3, 0, 2}, {{1, 0, 3}, {2, 2, 4}}},                    /* P5 */
+        {64, 0, {0}, {65, 0}, {{0}}},
+        {1, WORDS(1, 31), {1, 1, 0}, {{31, 0, 1}}},
+        {64, WORDS(1, 31), {64, 1, 0}, {{31, 0, 64}}},
+        {64, WORDS(64, 1), {1, 64, 0}, {{1, 0, 64}}},
+        {64, WORDS(32, 31, 32, 1), {1, 64, 0, 32}, {{31, 0, 32}, {1, 32, 64}}},
+        {64, WORDS(32, 7, 31, 7), {1, 64, 0, 33}, {{7, 0, 64}}},
+        {64, WORDS(3, 9, 40, 2, 5, 9), {17, 48, 0, 3, 43}, {{9, 0, 64}, {2, 3, 59}}},
+    };
+    struct want p1 = {.count = 4, .words = {2, 1, 1, 2}};
+    check((struct call){READ_LINE, 0, (const uint8_t[]){0, 0, 1, 1, 0, 2}, 6}, &p1);
+    for (size_t i = 0; i < COUNT(rows); i++) {
+        struct want starts = {.count = 2 + rows[i].words / 2}, ranges = {.count = RANGES};
+        memcpy(starts.words, rows[i].starts, sizeof rows[i].starts);
+        for (const uint32_t *r = rows[i].ranges[0]; r <= rows[i].ranges[1]; r += 3)
+            if (r[0] != 0)
+                memcpy(&ranges.words[2 * r[0] - 2], &r[1], 2 * sizeof *r);
+        check_clue(rows[i].length, rows[i].clue, rows[i].words, &starts, &ranges);
+    }
+}
+
+/* Blocks of one size whose colours go round from 1 to `colors`. */
+static void fill(uint32_t *clue, size_t blocks, uint32_t size, uint32_t colors) {
+    for (size_t b = 0; b < blocks; b++) {
+        clue[2 * b] = size;
+        clue[2 * b + 1] = 1 + b % colors;
+    }
+}
+
+/* Blocks of one cell: side by side, or at every second cell where they share one colour. */
+static void single_cells(uint32_t length, uint32_t blocks, uint32_t colors) {
+    uint32_t clue[128], step = colors == 1 ? 2 : 1, space = (blocks - 1) * step + 1;
+    struct want starts = {.count = 2 + blocks, .words = {length - space + 1, space}}, ranges = {.count = RANGES};
+    fill(clue, blocks, 1, colors);
+    for (uint32_t b = 0; b < blocks; b++) {
+        starts.words[2 + b] = b * step;
+        if (b < colors)
+            ranges.words[2 * b] = b * step;
+        ranges.words[2 * (b % colors) + 1] = b * step + 1 + length - space;
+    }
+    check_clue(length, clue, 2 * blocks, &starts, &ranges);
+}
+
+static void many_blocks(void) {
+    static const uint32_t rows[][3] = {{64, 64, 2}, {64, 64, 31}, {64, 63, 3}, {40, 31, 31}, {63, 32, 1}, {64, 32, 1}};
+    for (size_t i = 0; i < COUNT(rows); i++)
+        single_cells(rows[i][0], rows[i][1], rows[i][2]);
+}
+
+/* ---- Refused clues ---- */
+
+/* Many rows have a second fault, which comes later in the order. */
+static void refused_rows(void) {
+    static const struct { size_t length, words; uint32_t clue[8], number; size_t place; } rows[] = {
+        {64, WORDS(1), 1, 1}, {64, WORDS(0), 1, 1}, {64, WORDS(1, 32, 1), 1, 3}, {1, WORDS(0, 0, 0, 0, 0), 1, 5},
+        {64, WORDS(0, 1), 4, 0}, {64, WORDS(0, 0), 4, 0}, {64, WORDS(0, 32, 65, 1), 4, 0}, {64, WORDS(1, 1, 0, 32), 4, 2},
+        {64, WORDS(65, 1, 0, 1), 4, 2}, {64, WORDS(0, 1, 1, 32), 4, 0}, {2, WORDS(1, 1, 1, 1, 0, 1), 4, 4},
+        {64, WORDS(1, 0), 5, 1}, {64, WORDS(1, 32), 5, 1}, {64, WORDS(1, UINT32_MAX), 5, 1}, {64, WORDS(1, 257), 5, 1},
+        {64, WORDS(1, 65537), 5, 1}, {64, WORDS(1, 0, 0, 1), 5, 1}, {64, WORDS(1, 32, 0, 0), 5, 1},
+        {64, WORDS(65, 1, 1, 0), 5, 3}, {64, WORDS(1, 31, 1, 32), 5, 3}, {64, WORDS(UINT32_MAX, 1, 2, 1, 1, 0), 5, 5},
+        {64, WORDS(65, 1), 6, 0}, {63, WORDS(64, 31), 6, 0}, {2, WORDS(1, 1, 1, 1), 6, 0}, {1, WORDS(1, 1, 1, 2), 6, 0},
+        {64, WORDS(32, 7, 32, 7), 6, 0}, {64, WORDS(32, 7, 33, 8), 6, 0}, {63, WORDS(32, 7, 31, 7), 6, 0},
+        {64, WORDS(UINT32_MAX, 1), 6, 0}, {64, WORDS(UINT32_MAX, 1, 2, 1), 6, 0}, {64, WORDS(UINT32_MAX, 1, 2, 2), 6, 0},
+        {64, WORDS(UINT32_MAX, 1, 1, 2), 6, 0}, {64, WORDS(UINT32_MAX, 1, 1, 1), 6, 0}, {64, WORDS(1, 1, UINT32_MAX, 1), 6, 0},
+        {64, WORDS(257, 1), 6, 0}, {64, WORDS(65537, 1), 6, 0}, {64, WORDS(1u << 31, 1, 1u << 31, 2), 6, 0},
+        {64, WORDS(1u << 30, 1, 1u << 30, 2, 1u << 30, 1, 1u << 30, 2), 6, 0},
+    };
+    for (size_t i = 0; i < COUNT(rows); i++)
+        check_refused(rows[i].length, rows[i].clue, rows[i].words, rows[i].number, rows[i].place);
+}
+
+/* First a wrong length, then an odd number of words, then too many blocks, whatever the words are. */
+static void refused_sizes(const uint32_t *clue) {
+    static const size_t lengths[] = {0, 65, 66, 257, (size_t)UINT32_MAX + 2, SIZE_MAX / 2 + 2, SIZE_MAX - 63, SIZE_MAX};
+    for (size_t words = 0; words <= ROOM; words++) {
+        for (size_t i = 0; i < COUNT(lengths); i++)
+            check_refused(lengths[i], clue, words, 2, 0);
+        if (words % 2 == 1)
+            check_refused(64, clue, words, 1, words);
+        else if (words > 128)
+            check_refused(64, clue, words, 3, 0);
+    }
+}
+
+/* Sizes whose sum wraps in 32 bits, and faults at the last of 64 blocks. */
+static void refused_long(void) {
+    uint32_t clue[ROOM] = {0};
+    refused_sizes(clue);
+    for (uint32_t colors = 1; colors <= 2; colors++)
+        for (size_t blocks = 1; blocks <= 64; blocks++) {
+            fill(clue, blocks, UINT32_MAX, colors);
+            check_refused(64, clue, 2 * blocks, 6, 0);
+        }
+    fill(clue, 64, 1u << 26, 2);
+    check_refused(64, clue, 128, 6, 0);
+    fill(clue, ROOM / 2, 1, 2);
+    refused_sizes(clue);
+    check_refused(63, clue, 128, 6, 0);
+    clue[127] = 32;
+    check_refused(63, clue, 128, 5, 127);
+    clue[126] = 0;
+    check_refused(63, clue, 128, 4, 126);
+}
+
+/* ---- Powers of two ---- */
+
+static int has_bit(uint32_t word, size_t k) {
+    return word / power(2, k) % 2 == 1;
+}
+
+/* A bit of the answer stands where some word has it. */
+static void check_join(const uint32_t *words, size_t n) {
+    struct want x = {0};
+    for (size_t k = 0; k < 32; k++)
+        for (size_t i = 0; i < n; i++)
+            if (has_bit(words[i], k)) {
+                x.number += power(2, k);
+                break;
+            }
+    for (int nulls = 0; nulls <= (n == 0); nulls++)
+        check_once((struct call){FROM_TWO_POWERS, 0, words, n}, &x, 0, nulls);
+}
+
+static void check_mask(uint32_t mask) {
+    struct want x = {0};
+    for (size_t k = 0; k < 32; k++)
+        if (has_bit(mask, k))
+            push(&x, power(2, k));
+    check((struct call){TWO_POWERS, mask, NULL, 0}, &x);
+    check_join(x.words, x.count);
+}
+
+static void masks(void) {
+    for (uint32_t mask = 0; mask <= 65535; mask++)
+        check_mask(mask);
+    for (size_t k = 0; k < 32; k++)
+        check_mask(power(2, k));
+    check_mask(UINT32_MAX);
+    for (int i = 0; i < 4000; i++)
+        check_mask(random_word());
+}
+
+/* Repeated powers in even rounds, any words in odd ones. */
+static void joins(void) {
+    uint32_t words[ROOM];
+    for (size_t round = 0; round < 4000; round++) {
+        size_t n = random_word() % (round < 2000 ? 6 : ROOM + 1);
+        for (size_t i = 0; i < n; i++)
+            words[i] = round % 2 == 0 ? power(2, random_word() % 8) : random_word() & random_word() & random_word();
+        check_join(words, n);
+    }
+}
+
+static void group(const char *name, void (*tests)(void)) {
+    unsigned long before = checks;
+    tests();
+    printf("%s: %lu checks\n", name, checks - before);
+}
+
+int main(void) {
+    group("rows P1, P3, P4, P5 and limits", by_hand);
+    group("lines of 1 to 6 cells", small_lines);
+    group("longer lines", long_lines);
+    group("refused lines", refused_lines);
+    group("clues on 1 to 6 cells", small_clues);
+    group("clues of many blocks", many_blocks);
+    group("refused clues", refused_rows);
+    group("refused lengths, counts and long clues", refused_long);
+    group("masks", masks);
+    group("joined words", joins);
+    printf("entries: %lu checks, 0 wrong\n", checks);
+    return 0;
+}
