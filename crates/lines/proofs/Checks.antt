@@ -2,7 +2,7 @@
 use mathlib.Core.Path.{_≡_, refl}
 use mathlib.Core.Bool.{Bool, true, false, true≢false}
 use mathlib.Core.List.{List}
-use Prim.Native.Nat.{ℕ, _+_, _%_, _≤_, _<_}
+use Prim.Native.Nat.{ℕ, _+_, _/_, _%_, _≤_, _<_}
 use native.Mathlib.Omega.{arith}
 use lib.ListN.{length, drop, getD, drop-of-length-le}
 use lib.Dec.{eqb, ltb}
@@ -30,11 +30,11 @@ module _ (n : ℕ) (clue : List ℕ) where
     odd-refused e = rw (s, eq-eqb _ _ e)
 
     module _ (e : length clue % 2 ≡ 1 → ⊥) where
-      pub many-refused : 128 < length clue → refused 3 0 ≡ clueChecks n clue
+      pub many-refused : 64 < length clue / 2 → refused 3 0 ≡ clueChecks n clue
       unfolding clueChecks
       many-refused h = rw (s, ne-eqb _ _ e, lt-ltb _ _ h)
 
-      module _ (h : length clue ≤ 128) where
+      module _ (h : length clue / 2 ≤ 64) where
         pub block-refused : {a : Answer} {why : Refusal} → a ≡ Refused why → told a ≡ blockChecks 0 clue → told a ≡ clueChecks n clue
         unfolding clueChecks
         block-refused r b = rw (s, ne-eqb _ _ e, le-ltb _ _ h, ← b) (handed-up r _)
@@ -58,7 +58,7 @@ size-within n e = go (eqb n 0) refl e
 pub record ClueOk (n : ℕ) (clue : List ℕ) (space : ℕ) : Type 0 where
   pub some : 0 < n
   pub most : n ≤ 64
-  pub few : length clue ≤ 128
+  pub few : length clue / 2 ≤ 64
   pub space-is : space ≡ minSpace gap (blocks clue)
   pub fits : space ≤ n
 
@@ -67,7 +67,7 @@ unfolding clueChecks
 clue-ok n clue space e =
     let a = refuse-accepted (offSize n) _ _ _ e in
     let b = refuse-accepted (eqb (length clue % 2) 1) _ _ _ (a .1) in
-    let c = refuse-accepted (ltb 128 (length clue)) _ _ _ (b .1) in
+    let c = refuse-accepted (ltb 64 (length clue / 2)) _ _ _ (b .1) in
     let d = refuse-accepted (ltb n (minSpace gap (blocks clue))) _ _ _ (then-accepted (blockChecks 0 clue) _ (c .1)) in
     let same : space ≡ minSpace gap (blocks clue) = cc in
     record {

@@ -1,7 +1,7 @@
 -- Document 01: what the calls `read_line`, `starts` and `color_ranges` refuse, in its order, and what they write.
 use mathlib.Core.Bool.{Bool, _||_}
 use mathlib.Core.List.{List, [], _∷_}
-use Prim.Native.Nat.{ℕ, _+_, _-_, _%_}
+use Prim.Native.Nat.{ℕ, _+_, _-_, _/_, _%_}
 use lib.ListN.{length}
 use lib.Dec.{eqb, ltb}
 use Rattle.lists.specs.Each.{each}
@@ -23,12 +23,12 @@ blockChecks i [] = accepted 0
 blockChecks i (size ∷ []) = accepted 0
 blockChecks i (size ∷ color ∷ ws) = refuse (eqb size 0) 4 i (refuse (offColor color) 5 (i + 1) (blockChecks (i + 2) ws))
 
--- 2; 1 for an odd number of words; 3; 4 and 5 by word; 6
+-- 2; 1 for an odd number of words; 3; 4 and 5 by word; 6; and else the least space
 unfoldable pub clueChecks : ℕ → List ℕ → Verdict
 clueChecks n clue =
     refuse (offSize n) 2 0
     (refuse (eqb (length clue % 2) 1) 1 (length clue)
-    (refuse (ltb 128 (length clue)) 3 0
+    (refuse (ltb 64 (length clue / 2)) 3 0
     (andThen (blockChecks 0 clue)
     (refuse (ltb n (minSpace gap (blocks clue))) 6 0
     (accepted (minSpace gap (blocks clue)))))))

@@ -1,6 +1,7 @@
 // A clue's words: their check, the least space, the starts.
 use crate::gap::gap;
-use crate::off_size;
+use crate::limits::off_color;
+use crate::limits::off_size;
 use refusals::Answer;
 use refusals::Refusal;
 ghost use mathlib.Core.Path.{_≡_};
@@ -10,14 +11,7 @@ ghost use Rattle.lists.specs.Wrote.{Wrote};
 ghost use Rattle.refusals.specs.Told.{told};
 ghost use Rattle.refusals.specs.Outcome.{Answers};
 ghost use Rattle.lines.specs.Clue as Clue;
-ghost use Rattle.lines.specs.Calls.{offColor, blockChecks, clueChecks, startsWords};
-
-// Whether c is no colour of a block.
-pub fn off_color(c: u32) -> bool
-    ensures { λ r. ⌜ r ≡ offColor c ⌝ }
-{
-    c == 0 || 31 < c
-}
+ghost use Rattle.lines.specs.Calls.{blockChecks, clueChecks, startsWords};
 
 // The first word that is no size or no colour.
 fn check_blocks(clue: &[u32]) -> Answer
@@ -38,7 +32,7 @@ fn check_blocks(clue: &[u32]) -> Answer
 
 // The end of the last block; 64 sizes of 32 bits do not wrap in 64.
 pub fn min_space(clue: &[u32]) -> u64
-    requires { ⌜ length (now clue) ≤ 128 ⌝ }
+    requires { ⌜ length (now clue) / 2 ≤ 64 ⌝ }
     ensures { λ r. ⌜ r ≡ Clue.minSpace Clue.gap (Clue.blocks (now (clue .entry))) ⌝ }
 {
     let mut at: u64 = 0;
@@ -63,7 +57,7 @@ pub fn check_clue(length: usize, clue: &[u32]) -> Answer
     if clue.len() % 2 == 1 {
         return Answer::Refused(Refusal::WordMissing(clue.len()));
     }
-    if 128 < clue.len() {
+    if 64 < clue.len() / 2 {
         return Answer::Refused(Refusal::TooManyBlocks(0));
     }
     let checked = check_blocks(clue);

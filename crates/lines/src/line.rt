@@ -1,5 +1,5 @@
 // Reading one line of colour bytes.
-use crate::off_size;
+use crate::limits::off_size;
 use lists::put_pair;
 use refusals::Answer;
 use refusals::Refusal;

@@ -1,6 +1,6 @@
 use borrow.Author.Tests.{eq-eqb, ne-eqb}
-use Rattle.lines.proofs.clue.off_color.Statement.{statement}
-use Rattle.lines.proofs.clue.off_color.Tie as tie
+use Rattle.lines.proofs.limits.off_color.Statement.{statement}
+use Rattle.lines.proofs.limits.off_color.Tie as tie
 
 pub off-color-spec : {M : Type 1} → statement M
 off-color-spec = tie.close (tie.spec

@@ -1,6 +1,6 @@
 use borrow.Author.Tests.{eq-eqb, ne-eqb}
-use Rattle.lines.proofs.off_size.Statement.{statement}
-use Rattle.lines.proofs.off_size.Tie as tie
+use Rattle.lines.proofs.limits.off_size.Statement.{statement}
+use Rattle.lines.proofs.limits.off_size.Tie as tie
 
 pub off-size-spec : {M : Type 1} → statement M
 off-size-spec = tie.close (tie.spec
