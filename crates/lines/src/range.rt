@@ -17,10 +17,10 @@ ghost use Rattle.lines.specs.Clue as Clue;
 ghost use Rattle.lines.specs.Calls.{clueChecks, rangesWords};
 
 // The packed blocks of a colour, where there are any: the first one's start and the last one's end.
-pub struct Span {
-    pub found: bool,
-    pub start: u32,
-    pub end: u32,
+struct Span {
+    found: bool,
+    start: u32,
+    end: u32,
 }
 
 fn color_span(clue: &[u32], color: u32) -> Span
