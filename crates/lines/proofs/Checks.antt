@@ -1,13 +1,14 @@
 -- What the checks of a clue and of a line give, by the way that they go; and what holds of a clue that they accept.
-use mathlib.Core.Path.{_≡_, refl}
-use mathlib.Core.Bool.{Bool, true, false, true≢false}
+use mathlib.Core.Path.{_≡_}
+use mathlib.Core.Bool.{true, false}
 use mathlib.Core.List.{List}
 use Prim.Native.Nat.{ℕ, _+_, _/_, _%_, _≤_, _<_}
 use native.Mathlib.Omega.{arith}
 use lib.ListN.{length, drop, getD, drop-of-length-le}
 use lib.Dec.{eqb, ltb}
-use borrow.Author.Tests.{eq-eqb, ne-eqb, lt-ltb, le-ltb, eqb-false, ltb-false}
+use borrow.Author.Tests.{eq-eqb, ne-eqb, lt-ltb, le-ltb, ltb-false}
 use Rattle.lists.proofs.Dropping.{drop-one}
+use Rattle.lists.proofs.Tests.{neither}
 use Rattle.refusals.specs.Verdict.{accepted, refused}
 use Rattle.refusals.specs.Told.{told}
 use Rattle.refusals.specs.declared.Refusal.{Refusal}
@@ -48,15 +49,10 @@ module _ (n : ℕ) (clue : List ℕ) where
           unfolding clueChecks
           clue-accepted l = rw (s, ne-eqb _ _ e, le-ltb _ _ h, ← b, ← m, le-ltb _ _ l)
 
-pub size-within : (n : ℕ) → offSize n ≡ false → (0 < n) × (n ≤ 64)
-size-within n e = go (eqb n 0) refl e
-  where
-    go : (b : Bool) → eqb n 0 ≡ b → offSize n ≡ false → (0 < n) × (n ≤ 64)
-    go true p e = absurd (true≢false (rw p at e))
-    go false p e = (omega (arith, eqb-false n 0 p), ltb-false 64 n (rw p at e))
+pub size-within : (n : ℕ) → offSize n ≡ false → n ≤ 64
+size-within n e = ltb-false 64 n (neither (eqb n 0) (ltb 64 n) e .1)
 
 pub record ClueOk (n : ℕ) (clue : List ℕ) (space : ℕ) : Type 0 where
-  pub some : 0 < n
   pub most : n ≤ 64
   pub few : length clue / 2 ≤ 64
   pub space-is : space ≡ minSpace gap (blocks clue)
@@ -71,8 +67,7 @@ clue-ok n clue space e =
     let d = refuse-accepted (ltb n (minSpace gap (blocks clue))) _ _ _ (then-accepted (blockChecks 0 clue) _ (c .1)) in
     let same : space ≡ minSpace gap (blocks clue) = cc in
     record {
-      some = size-within n (a .0) .0;
-      most = size-within n (a .0) .1;
+      most = size-within n (a .0);
       few = ltb-false _ _ (c .0);
       space-is = same;
       fits = omega (arith, ltb-false n (minSpace gap (blocks clue)) (d .0));

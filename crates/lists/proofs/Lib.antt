@@ -1,4 +1,5 @@
 pub mod Dropping
 pub mod Eaches
 pub mod Emitting
+pub mod Tests
 pub mod Writing

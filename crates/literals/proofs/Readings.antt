@@ -1,11 +1,12 @@
 -- What a word is read as: the answer is determined, and what was made is read back.
 use mathlib.Core.Path.{_≡_, refl, sym, ap, _∙_}
-use mathlib.Core.Bool.{Bool, true, false, _||_, true≢false, or-true}
+use mathlib.Core.Bool.{true, false, _||_, true≢false, or-true}
 use Prim.Native.Nat.{ℕ, _≤_}
 use native.Mathlib.Omega.{arith}
 use borrow.Author.Tests.{le-ltb, ne-eqb, ltb-false, eqb-false}
 use lib.IntN.{ℤ, negsuc}
 use lib.Dec.{eqb, ltb}
+use Rattle.lists.proofs.Tests.{neither}
 use Rattle.literals.specs.declared.Read.{Read}
 use Rattle.literals.specs.declared.Read.the-variants.{Good, Wrong}
 use Rattle.literals.specs.Literals.{largest, IsVariable, variable, offLiteral, Reading}
@@ -13,10 +14,6 @@ use Rattle.literals.specs.Literals.{largest, IsVariable, variable, offLi
 -- the smallest i32 is refused
 pub smallest-off : (n : ℕ) → offLiteral n (negsuc 2147483647) ≡ true
 smallest-off n = or-true (ltb n 2147483648)
-
-neither : (a b : Bool) → (a || b) ≡ false → (a ≡ false) × (b ≡ false)
-neither true b e = absurd (true≢false e)
-neither false b e = (refl, e)
 
 module _ (n : ℕ) (z : ℤ) where
   -- of a word that is not refused
