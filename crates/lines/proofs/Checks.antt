@@ -75,25 +75,11 @@ clue-ok n clue space e =
 
 -- ---- a line
 
-module _ (l : List ℕ) (i : ℕ) where
-  module _ (h : i < length l) where
-    pub byte-refused : 31 < getD l i 0 → byteChecks i (drop i l) ≡ refused 18 i
-    unfolding byteChecks
-    byte-refused e = rw (drop-one 0 l i h, lt-ltb _ _ e)
-
-    pub byte-next : getD l i 0 ≤ 31 → byteChecks i (drop i l) ≡ byteChecks (i + 1) (drop (i + 1) l)
-    unfolding byteChecks
-    byte-next e = rw (drop-one 0 l i h, le-ltb _ _ e)
-
-  pub byte-done : length l ≤ i → byteChecks i (drop i l) ≡ accepted 0
-  unfolding byteChecks
-  byte-done h = rw (drop-of-length-le l h)
-
 module _ (line : List ℕ) where
   pub length-refused : offSize (length line) ≡ true → refused 2 0 ≡ lineChecks line
   unfolding lineChecks
   length-refused s = rw s
 
-  pub length-passed : offSize (length line) ≡ false → byteChecks 0 line ≡ lineChecks line
+  pub length-passed : offSize (length line) ≡ false → byteChecks line ≡ lineChecks line
   unfolding lineChecks
   length-passed s = rw s

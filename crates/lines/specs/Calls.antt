@@ -5,7 +5,7 @@ use Prim.Native.Nat.{ℕ, _+_, _-_, _/_, _%_}
 use lib.ListN.{length}
 use lib.Dec.{eqb, ltb}
 use Rattle.lists.specs.Each.{each}
-use Rattle.refusals.specs.Verdict.{Verdict, accepted, refuse, andThen}
+use Rattle.refusals.specs.Verdict.{Verdict, accepted, refuse, andThen, firstOff}
 use Rattle.lines.specs.Clue.{words, blocks, gap, packed, starts, minSpace, positions, ofColor, range}
 use Rattle.lines.specs.Line.{runs}
 
@@ -41,14 +41,13 @@ startsWords n clue = positions gap n (blocks clue) ∷ minSpace gap (blocks clue
 unfoldable pub rangesWords : ℕ → List ℕ → List ℕ
 rangesWords n clue = each 31 (λ k. range (positions gap n (blocks clue) - 1) (ofColor (k + 1) (packed gap (blocks clue))))
 
--- 18 at the first byte over 31, from byte i on
-unfoldable pub byteChecks : ℕ → List ℕ → Verdict
-byteChecks i [] = accepted 0
-byteChecks i (x ∷ l) = refuse (ltb 31 x) 18 i (byteChecks (i + 1) l)
+-- 18 at the first byte over 31
+abbrev pub byteChecks : List ℕ → Verdict
+byteChecks line = firstOff (ltb 31) 18 0 line
 
 -- 2, 18
 unfoldable pub lineChecks : List ℕ → Verdict
-lineChecks line = refuse (offSize (length line)) 2 0 (byteChecks 0 line)
+lineChecks line = refuse (offSize (length line)) 2 0 (byteChecks line)
 
 -- size and colour pairs
 unfoldable pub lineWords : List ℕ → List ℕ

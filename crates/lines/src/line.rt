@@ -15,7 +15,7 @@ ghost use Rattle.lines.specs.Calls.{byteChecks, lineChecks, lineWords};
 
 // The first byte that is no colour.
 pub fn check_bytes(line: &[u8]) -> Answer
-    ensures { λ r. ⌜ told r ≡ byteChecks 0 (now (line .entry)) ⌝ }
+    ensures { λ r. ⌜ told r ≡ byteChecks (now (line .entry)) ⌝ }
 {
     for i in 0..line.len() {
         if 31 < line[i] {

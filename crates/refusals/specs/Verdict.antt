@@ -1,6 +1,7 @@
 -- Document 01, "Refusal numbers": every answer has a number and a place; 0 is acceptance.
 use mathlib.Core.Bool.{Bool, cond}
-use Prim.Native.Nat.{ℕ}
+use mathlib.Core.List.{List, [], _∷_}
+use Prim.Native.Nat.{ℕ, _+_}
 
 pub data Verdict : Type 0 where
   -- the place is how many words or bytes were written
@@ -24,3 +25,8 @@ refuse b k p v = cond b (refused k p) v
 abbrev pub andThen : Verdict → Verdict → Verdict
 andThen (accepted n) v = v
 andThen (refused k p) v = refused k p
+
+-- number k at the first element that offends, from place p on
+unfoldable pub firstOff : {A : Type 0} → (A → Bool) → ℕ → ℕ → List A → Verdict
+firstOff off k p [] = accepted 0
+firstOff off k p (a ∷ l) = refuse (off a) k p (firstOff off k (p + 1) l)

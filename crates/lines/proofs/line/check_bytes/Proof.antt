@@ -1,15 +1,16 @@
-use mathlib.Core.Path.{_≡_, refl, sym, _∙_}
+use mathlib.Core.Path.{_≡_, refl}
 use native.Mathlib.Omega.{arith}
-use Prim.Native.Nat.{_-_, _≤_}
-use lib.ListN.{length, drop}
-use Rattle.lines.specs.Calls.{byteChecks}
-use Rattle.lines.proofs.Checks.{byte-refused, byte-next, byte-done}
+use Prim.Native.Nat.{_-_}
+use lib.ListN.{length}
+use lib.Dec.{ltb}
+use borrow.Author.Tests.{lt-ltb, le-ltb}
+use Rattle.refusals.proofs.Offending.{Searching, searching-first, searching-found, searching-next, searching-done}
 use borrow.Author.Needs.{needs}
 use Rattle.lines.proofs.line.check_bytes.Statement.{statement}
 use Rattle.lines.proofs.line.check_bytes.Tie as tie
 
 abbrev Inv-loop : tie.InvT-loop
-Inv-loop line i₀ i-end i = (i-end ≡ length line) × ((i ≤ length line) × (byteChecks 0 line ≡ byteChecks i (drop i line)))
+Inv-loop line i₀ i-end i = (i-end ≡ length line) × Searching (ltb 31) 18 0 line i i
 
 abbrev μ-loop : tie.MeasureT-loop
 μ-loop line i₀ i-end i = length line - i
@@ -20,10 +21,10 @@ check-bytes-spec =
     (tie.spec
     Inv-loop
     μ-loop
-    (λ c. (refl, (omega arith, refl)))
+    (λ c. (refl, searching-first _ _ _ _))
     (λ c. search needs)
-    (λ c. sym (c .before .before .before .loop .inv .1 .1 ∙ byte-refused _ _ (omega arith) (c .if1 .taken)))
+    (λ c. searching-found (c .before .before .before .loop .inv .1) 0 (omega arith) (lt-ltb _ _ (c .if1 .taken)))
     (λ c. search needs)
     (λ c. search needs)
-    (λ c. (search needs, (search needs, c .before .before .before .loop .inv .1 .1 ∙ byte-next _ _ (omega arith) (c .if1 .left))))
-    (λ c. sym (c .before .loop .inv .1 .1 ∙ byte-done _ _ (omega arith))))
+    (λ c. (search needs, searching-next (c .before .before .before .loop .inv .1) 0 (omega arith) (le-ltb _ _ (c .if1 .left))))
+    (λ c. searching-done (c .before .loop .inv .1) (omega arith)))

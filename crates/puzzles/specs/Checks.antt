@@ -1,0 +1,50 @@
+-- Document 01, "Refusal numbers": the order for a puzzle. After the walk come 11; 6 by line; 9; 10; and else the colour set K.
+use mathlib.Core.Bool.{Bool, not}
+use mathlib.Core.List.{List, []}
+use Prim.Native.Nat.{ℕ}
+use lib.Dec.{ltb}
+use lib.ListN.{length}
+use Rattle.refusals.specs.Verdict.{Verdict, accepted, refused, refuse, andThen, firstOff}
+use Rattle.lines.specs.Clue.{Block, gap, minSpace}
+use Rattle.puzzles.specs.Puzzle.{Puzzle, width, height}
+use Rattle.puzzles.specs.Colors.{colorSet, known, offSolved}
+use Rattle.puzzles.specs.Walk.{Walk, got, stop, readPuzzle}
+
+-- 6: lines of n cells, the first of them line i
+abbrev pub spaceChecks : ℕ → ℕ → List (List Block) → Verdict
+spaceChecks n i ls = firstOff (λ bs. ltb n (minSpace gap bs)) 6 i ls
+
+-- 9, by column
+abbrev pub columnChecks : ℕ → List (List Block) → Verdict
+columnChecks K columns = firstOff (λ bs. not (known K bs)) 9 0 columns
+
+-- 10, by cell
+abbrev pub solvedChecks : ℕ → List ℕ → Verdict
+solvedChecks K masks = firstOff (λ mask. offSolved K mask) 10 0 masks
+
+-- the colour set of a puzzle
+abbrev pub colors : Puzzle → ℕ
+colors z = colorSet (z .rows)
+
+unfoldable pub meaningChecks : Puzzle → Verdict
+meaningChecks z =
+    andThen (spaceChecks (height z) 0 (z .columns))
+    (andThen (spaceChecks (width z) (width z) (z .rows))
+    (andThen (columnChecks (colors z) (z .columns))
+    (andThen (solvedChecks (colors z) (z .masks))
+    (accepted (colors z)))))
+
+unfoldable pub checksOf : Walk Puzzle → Verdict
+checksOf (got z i ws) = refuse (ltb 0 (length ws)) 11 i (meaningChecks z)
+checksOf (stop k p) = refused k p
+
+unfoldable pub puzzleOf : Walk Puzzle → Puzzle
+puzzleOf (got z i ws) = z
+puzzleOf (stop k p) = record { columns = []; rows = []; masks = [] }
+
+-- the refusals of puzzle words, and the puzzle that accepted words hold
+abbrev pub puzzleChecks : List ℕ → Verdict
+puzzleChecks ws = checksOf (readPuzzle ws)
+
+abbrev pub puzzle : List ℕ → Puzzle
+puzzle ws = puzzleOf (readPuzzle ws)

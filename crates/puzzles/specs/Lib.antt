@@ -1,0 +1,6 @@
+pub mod Puzzle
+pub mod Colors
+pub mod Walk
+pub mod Checks
+pub mod Good
+pub mod Table

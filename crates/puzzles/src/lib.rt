@@ -1,0 +1,1 @@
+// Puzzle words: what they hold, their refusals, and the table of their lines.
