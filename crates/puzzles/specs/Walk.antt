@@ -39,23 +39,27 @@ unfoldable pub times : {A : Type 0} → ℕ → (ℕ → List ℕ → Walk A) �
 times zero f i ws = got [] i ws
 times (suc n) f i ws = next (f i ws) (λ a j us. next (times n f j us) (λ l k vs. got (a ∷ l) k vs))
 
+-- a count, which is refused with k where it is off, and as many after it
+unfoldable pub counted : {A : Type 0} → (ℕ → Bool) → ℕ → (ℕ → List ℕ → Walk A) → ℕ → List ℕ → Walk (List A)
+counted off k f i ws = word i ws (λ n us. stopIf (off n) k i (times n f (i + 1) us))
+
 unfoldable pub readBlock : ℕ → List ℕ → Walk Block
 readBlock i ws =
     word i ws (λ size us. stopIf (eqb size 0) 4 i
     (word (i + 1) us (λ color vs. stopIf (offColor color) 5 (i + 1)
     (got (record { size = size; color = color }) (i + 2) vs))))
 
-unfoldable pub readClue : ℕ → List ℕ → Walk (List Block)
-readClue i ws = word i ws (λ n us. stopIf (ltb 64 n) 3 i (times n readBlock (i + 1) us))
-
-unfoldable pub readLines : ℕ → List ℕ → Walk (List (List Block))
-readLines i ws = word i ws (λ n us. stopIf (offSize n) 2 i (times n readClue (i + 1) us))
-
 unfoldable pub readMask : ℕ → List ℕ → Walk ℕ
 readMask i ws = word i ws (λ m us. stopIf (eqb m 0) 8 i (got m (i + 1) us))
 
-unfoldable pub readCells : ℕ → ℕ → List ℕ → Walk (List ℕ)
-readCells area i ws = word i ws (λ n us. stopIf (not (eqb n area)) 7 i (times n readMask (i + 1) us))
+abbrev pub readClue : ℕ → List ℕ → Walk (List Block)
+readClue = counted (ltb 64) 3 readBlock
+
+abbrev pub readLines : ℕ → List ℕ → Walk (List (List Block))
+readLines = counted offSize 2 readClue
+
+abbrev pub readCells : ℕ → ℕ → List ℕ → Walk (List ℕ)
+readCells area = counted (λ n. not (eqb n area)) 7 readMask
 
 unfoldable pub readPuzzle : List ℕ → Walk Puzzle
 readPuzzle ws =

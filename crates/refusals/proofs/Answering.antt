@@ -55,6 +55,10 @@ pub then-accepted : (v w : Verdict) {n : ℕ} → accepted n ≡ andThen v w →
 then-accepted (accepted m) w e = e
 then-accepted (refused k p) w e = let z : _≡_ {A = ℕ} 0 1 = cc in absurd (omega arith)
 
+pub first-accepted : (v w : Verdict) {n : ℕ} → accepted n ≡ andThen v w → (m : ℕ) × (accepted m ≡ v)
+first-accepted (accepted m) w e = (m, refl)
+first-accepted (refused k p) w e = let z : _≡_ {A = ℕ} 0 1 = cc in absurd (omega arith)
+
 module _ {A : Type 0} (ws out : List A) {checks : Verdict} where
   pub answers-refused : {a : Answer} {why : Refusal} → a ≡ Refused why → told a ≡ checks → Answers checks ws out a out
   answers-refused {a} {why} r e =

@@ -1,0 +1,153 @@
+-- Accepted words are the words of a good puzzle, which is read from them; and a good puzzle's words are accepted and read as it.
+use mathlib.Core.Path.{_≡_, refl, sym, ap, _∙_}
+use mathlib.Core.Bool.{Bool, true, false, not, _&&_, false≢true, true≢false}
+use mathlib.Core.List.{List, [], _∷_, _++_, append-nil}
+use Prim.Native.Nat.{ℕ, zero, suc, _+_, _*_, _≤_, _<_}
+use native.Mathlib.Omega.{arith}
+use lib.Dec.{eqb, ltb}
+use lib.ListN.{length, getD}
+use borrow.Author.Tests.{eqb-false, eqb-true, eq-eqb, ne-eqb, le-ltb, ltb-false}
+use Rattle.lists.proofs.Tests.{neither}
+use Rattle.refusals.specs.Verdict.{accepted, andThen}
+use Rattle.refusals.proofs.Answering.{refuse-accepted, first-accepted, then-accepted}
+use Rattle.refusals.proofs.Offending.{none-off, off-none}
+use Rattle.bits.specs.Bits.{bit}
+use Rattle.lines.specs.Clue.{Block, gap, minSpace}
+use Rattle.lines.specs.Calls.{offSize}
+use Rattle.lines.specs.Arrangement.{Proper, blockAt}
+use Rattle.lines.proofs.Checks.{size-within}
+use Rattle.puzzles.specs.Puzzle.{Puzzle, width, height, lines, clueAt, lengthAt, puzzleWords}
+use Rattle.puzzles.specs.Colors.{known, offSolved}
+use Rattle.puzzles.specs.Walk.{Walk, got, stop, readPuzzle}
+use Rattle.puzzles.specs.Checks.{colors, spaceChecks, columnChecks, solvedChecks, meaningChecks, checksOf, puzzleOf, puzzleChecks, puzzle}
+use Rattle.puzzles.specs.Good.{Good}
+use Rattle.puzzles.proofs.Readers.{Each, FineBlock, FineClue, FineLines, FinePuzzle, Reads, puzzle-only, puzzle-back}
+use Rattle.puzzles.proofs.Lines.{clue-column, clue-row, length-column, length-row, each-line}
+
+-- ---- colours that are known
+
+both : (a b : Bool) → (a && b) ≡ true → (a ≡ true) × (b ≡ true)
+both true b e = (refl, e)
+both false b e = absurd (false≢true e)
+
+pub known-each : (K : ℕ) (bs : List Block) → known K bs ≡ true → (b : ℕ) → b < length bs → bit K (blockAt bs b .color) ≡ true
+unfolding known
+known-each K [] e b h = absurd (omega arith)
+known-each K (x ∷ bs) e zero h = both (bit K (x .color)) (known K bs) e .0
+known-each K (x ∷ bs) e (suc b) h = known-each K bs (both (bit K (x .color)) (known K bs) e .1) b (omega arith)
+
+pub each-known : (K : ℕ) (bs : List Block) → ((b : ℕ) → b < length bs → bit K (blockAt bs b .color) ≡ true) → known K bs ≡ true
+unfolding known
+each-known K [] h = refl
+each-known K (x ∷ bs) h = rw (h 0 (omega arith)) (each-known K bs (λ b l. h (suc b) (omega arith)))
+
+-- ---- good puzzles
+
+pub size-some : (n : ℕ) → offSize n ≡ false → 0 < n
+size-some n e = omega (arith, eqb-false n 0 (neither (eqb n 0) (ltb 64 n) e .0))
+
+size-fine : (n : ℕ) → 0 < n → n ≤ 64 → offSize n ≡ false
+size-fine n h m = rw (ne-eqb n 0 (λ e. omega arith), le-ltb 64 n m)
+
+not-false : (b : Bool) → not b ≡ false → b ≡ true
+not-false true e = refl
+not-false false e = absurd (true≢false e)
+
+clue-proper : (bs : List Block) → FineClue bs → Proper bs
+clue-proper bs F = record { sizes = λ b h. F .1 b h .sized; colors = λ b h. F .1 b h .colored }
+
+module _ (z : Puzzle) where
+  good-of : {n : ℕ} → FinePuzzle z → accepted n ≡ meaningChecks z → Good z × (n ≡ colors z)
+  unfolding meaningChecks
+  good-of {n} F e =
+      let c = then-accepted (spaceChecks (height z) 0 (z .columns)) _ e in
+      let r = then-accepted (spaceChecks (width z) (width z) (z .rows)) _ c in
+      let k = then-accepted (columnChecks (colors z) (z .columns)) _ r in
+      let m = then-accepted (solvedChecks (colors z) (z .masks)) _ k in
+      let C = first-accepted (spaceChecks (height z) 0 (z .columns)) _ e in
+      let R = first-accepted (spaceChecks (width z) (width z) (z .rows)) _ c in
+      let K = first-accepted (columnChecks (colors z) (z .columns)) _ r in
+      let M = first-accepted (solvedChecks (colors z) (z .masks)) _ k in
+      let fine : (l : ℕ) → l < lines z → FineClue (clueAt z l) = each-line z (λ n bs. FineClue bs) (F .columns .1) (F .rows .1) in
+      (
+        record {
+          width-some = size-some (width z) (F .columns .0);
+          width-most = size-within (width z) (F .columns .0);
+          height-some = size-some (height z) (F .rows .0);
+          height-most = size-within (height z) (F .rows .0);
+          few = λ l h. ltb-false 64 (length (clueAt z l)) (fine l h .0);
+          proper = λ l h. clue-proper (clueAt z l) (fine l h);
+          colors-most = λ l b h g. fine l h .1 b g .color-most;
+          fits = each-line z (λ n bs. minSpace gap bs ≤ n)
+              (λ l h. ltb-false _ _ (none-off [] (λ bs. ltb (height z) (minSpace gap bs)) 6 0 (z .columns) (C .1) l h))
+              (λ l h. ltb-false _ _ (none-off [] (λ bs. ltb (width z) (minSpace gap bs)) 6 (width z) (z .rows) (R .1) l h));
+          area = eqb-true _ _ (not-false _ (F .masks .0));
+          masks-some = F .masks .1;
+          columns-known = λ l b h g. rw (clue-column z l h)
+              (known-each (colors z) (getD (z .columns) l []) (not-false _ (none-off [] (λ bs. not (known (colors z) bs)) 9 0 (z .columns) (K .1) l h)) b (rw (clue-column z l h) at g));
+          solved-known = none-off 0 (offSolved (colors z)) 10 0 (z .masks) (M .1);
+        },
+        cc,
+      )
+
+  module _ (G : Good z) where
+    fine-clue : (l : ℕ) → l < lines z → FineClue (clueAt z l)
+    fine-clue l h = (
+      le-ltb 64 _ (G .few l h),
+      λ b g. record { sized = G .proper l h .sizes b g; colored = G .proper l h .colors b g; color-most = G .colors-most l b h g },
+    )
+
+    fine-of : FinePuzzle z
+    fine-of = record {
+      columns = (size-fine (width z) (G .width-some) (G .width-most), λ l h. rw (← clue-column z l h) (fine-clue l (omega arith)));
+      rows = (size-fine (height z) (G .height-some) (G .height-most), λ l h. rw (← clue-row z l) (fine-clue (width z + l) (omega arith)));
+      masks = (rw (eq-eqb _ _ (G .area)), G .masks-some);
+    }
+
+    spaces : (l : ℕ) → l < lines z → ltb (lengthAt z l) (minSpace gap (clueAt z l)) ≡ false
+    spaces l h = le-ltb _ _ (G .fits l h)
+
+    meaning-of : meaningChecks z ≡ accepted (colors z)
+    unfolding meaningChecks
+    meaning-of = rw (
+      off-none [] (λ bs. ltb (height z) (minSpace gap bs)) 6 0 (z .columns) (λ l h. rw (clue-column z l h, length-column z l h) at (spaces l (omega arith))),
+      off-none [] (λ bs. ltb (width z) (minSpace gap bs)) 6 (width z) (z .rows) (λ l h. rw (clue-row z l, length-row z l) at (spaces (width z + l) (omega arith))),
+      off-none [] (λ bs. not (known (colors z) bs)) 9 0 (z .columns)
+          (λ l h. rw (each-known (colors z) (getD (z .columns) l []) (λ b g. rw (clue-column z l h) at (G .columns-known l b h (rw (clue-column z l h) g))))),
+      off-none 0 (offSolved (colors z)) 10 0 (z .masks) (G .solved-known),
+    )
+
+    -- its words are accepted
+    pub good-accepted : puzzleChecks (puzzleWords z) ≡ accepted (colors z)
+    unfolding checksOf
+    good-accepted = ap checksOf (ap readPuzzle (sym (append-nil (puzzleWords z))) ∙ puzzle-back z [] fine-of) ∙ meaning-of
+
+    -- and read as it
+    pub good-read : puzzle (puzzleWords z) ≡ z
+    unfolding puzzleOf
+    good-read = ap puzzleOf (ap readPuzzle (sym (append-nil (puzzleWords z))) ∙ puzzle-back z [] fine-of)
+
+-- ---- accepted words
+
+pub record Accepted (ws : List ℕ) (n : ℕ) : Type 0 where
+  pub words-are : ws ≡ puzzleWords (puzzle ws)
+  pub good : Good (puzzle ws)
+  pub colors-are : n ≡ colors (puzzle ws)
+
+accepted-walk : (ws : List ℕ) {n : ℕ} (w : Walk Puzzle) → readPuzzle ws ≡ w → accepted n ≡ checksOf w → (ws ≡ puzzleWords (puzzleOf w)) × (Good (puzzleOf w)) × (n ≡ colors (puzzleOf w))
+unfolding checksOf puzzleOf
+accepted-walk ws (got z j us) e a =
+    let r = refuse-accepted (ltb 0 (length us)) _ _ _ a in
+    let P = puzzle-only ws z j us e in
+    let g = good-of z (P .fine) (r .1) in
+    let n : us ≡ [] = nothing us (ltb-false 0 (length us) (r .0)) in
+    (P .words-are ∙ rw (n, append-nil), g .0, g .1)
+  where
+    nothing : (us : List ℕ) → length us ≤ 0 → us ≡ []
+    nothing [] h = refl
+    nothing (u ∷ us) h = absurd (omega arith)
+accepted-walk ws (stop k p) e a = let z : _≡_ {A = ℕ} 0 1 = cc in absurd (omega arith)
+
+-- the one inversion: all that holds of accepted words
+pub accepted-is : (ws : List ℕ) {n : ℕ} → accepted n ≡ puzzleChecks ws → Accepted ws n
+accepted-is ws e = let a = accepted-walk ws (readPuzzle ws) refl e in record { words-are = a .0; good = a .1; colors-are = a .2 }

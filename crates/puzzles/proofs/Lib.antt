@@ -1,0 +1,4 @@
+pub mod Walking
+pub mod Readers
+pub mod Lines
+pub mod Accepting
