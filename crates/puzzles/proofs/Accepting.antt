@@ -19,7 +19,7 @@ use Rattle.lines.proofs.Checks.{size-within}
 use Rattle.puzzles.specs.Puzzle.{Puzzle, width, height, lines, clueAt, lengthAt, puzzleWords}
 use Rattle.puzzles.specs.Colors.{known, offSolved}
 use Rattle.puzzles.specs.Walk.{Walk, got, stop, readPuzzle}
-use Rattle.puzzles.specs.Checks.{colors, spaceChecks, columnChecks, solvedChecks, meaningChecks, checksOf, puzzleOf, puzzleChecks, puzzle}
+use Rattle.puzzles.specs.Checks.{colors, spaceChecks, columnChecks, solvedChecks, meaningChecks, sectionsOf, puzzleOf, puzzleChecks, puzzle}
 use Rattle.puzzles.specs.Good.{Good}
 use Rattle.puzzles.proofs.Readers.{Each, FineBlock, FineClue, FineLines, FinePuzzle, Reads, puzzle-only, puzzle-back}
 use Rattle.puzzles.proofs.Lines.{clue-column, clue-row, length-column, length-row, each-line}
@@ -117,15 +117,18 @@ module _ (z : Puzzle) where
       off-none 0 (offSolved (colors z)) 10 0 (z .masks) (G .solved-known),
     )
 
+    walked : readPuzzle (puzzleWords z) ≡ got z (length (puzzleWords z)) []
+    walked = ap readPuzzle (sym (append-nil (puzzleWords z))) ∙ puzzle-back z [] fine-of
+
     -- its words are accepted
     pub good-accepted : puzzleChecks (puzzleWords z) ≡ accepted (colors z)
-    unfolding checksOf
-    good-accepted = ap checksOf (ap readPuzzle (sym (append-nil (puzzleWords z))) ∙ puzzle-back z [] fine-of) ∙ meaning-of
+    unfolding sectionsOf puzzleOf
+    good-accepted = rw walked meaning-of
 
     -- and read as it
     pub good-read : puzzle (puzzleWords z) ≡ z
     unfolding puzzleOf
-    good-read = ap puzzleOf (ap readPuzzle (sym (append-nil (puzzleWords z))) ∙ puzzle-back z [] fine-of)
+    good-read = rw walked
 
 -- ---- accepted words
 
@@ -134,12 +137,13 @@ pub record Accepted (ws : List ℕ) (n : ℕ) : Type 0 where
   pub good : Good (puzzle ws)
   pub colors-are : n ≡ colors (puzzle ws)
 
-accepted-walk : (ws : List ℕ) {n : ℕ} (w : Walk Puzzle) → readPuzzle ws ≡ w → accepted n ≡ checksOf w → (ws ≡ puzzleWords (puzzleOf w)) × (Good (puzzleOf w)) × (n ≡ colors (puzzleOf w))
-unfolding checksOf puzzleOf
+accepted-walk : (ws : List ℕ) {n : ℕ} (w : Walk Puzzle) → readPuzzle ws ≡ w → accepted n ≡ andThen (sectionsOf w) (meaningChecks (puzzleOf w)) → (ws ≡ puzzleWords (puzzleOf w)) × (Good (puzzleOf w)) × (n ≡ colors (puzzleOf w))
+unfolding sectionsOf puzzleOf
 accepted-walk ws (got z j us) e a =
-    let r = refuse-accepted (ltb 0 (length us)) _ _ _ a in
+    let c = first-accepted (sectionsOf (got z j us)) _ a in
+    let r = refuse-accepted (ltb 0 (length us)) _ _ _ (c .1) in
     let P = puzzle-only ws z j us e in
-    let g = good-of z (P .fine) (r .1) in
+    let g = good-of z (P .fine) (then-accepted (sectionsOf (got z j us)) _ a) in
     let n : us ≡ [] = nothing us (ltb-false 0 (length us) (r .0)) in
     (P .words-are ∙ rw (n, append-nil), g .0, g .1)
   where

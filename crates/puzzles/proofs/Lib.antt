@@ -2,3 +2,5 @@ pub mod Walking
 pub mod Readers
 pub mod Lines
 pub mod Accepting
+pub mod Sections
+pub mod Places

@@ -132,7 +132,7 @@ block-reader = record { only = block-only; back = block-back }
 abbrev pub FineClue : List Block → Type 0
 FineClue bs = (ltb 64 (length bs) ≡ false) × Each no-block FineBlock bs
 
-clue-reader : Reader readClue clueWords FineClue
+pub clue-reader : Reader readClue clueWords FineClue
 unfolding words clueWords
 clue-reader = counted-reader no-block block-reader words refl (λ b bs. refl) (ltb 64) 3
 
@@ -156,7 +156,7 @@ mask-back : (i m : ℕ) (us : List ℕ) → 0 < m → readMask i (m ∷ us) ≡ 
 unfolding readMask
 mask-back i m us h = rw (ne-eqb m 0 (λ e. omega arith))
 
-mask-reader : Reader readMask (λ m. m ∷ []) (λ m. 0 < m)
+pub mask-reader : Reader readMask (λ m. m ∷ []) (λ m. 0 < m)
 mask-reader = record { only = mask-only; back = mask-back }
 
 abbrev pub FineCells : ℕ → List ℕ → Type 0

@@ -6,7 +6,7 @@ use lib.Dec.{ltb}
 use lib.ListN.{length}
 use Rattle.refusals.specs.Verdict.{Verdict, accepted, refused, refuse, andThen, firstOff}
 use Rattle.lines.specs.Clue.{Block, gap, minSpace}
-use Rattle.puzzles.specs.Puzzle.{Puzzle, width, height}
+use Rattle.puzzles.specs.Puzzle.{Puzzle, width, height, cellsAt}
 use Rattle.puzzles.specs.Colors.{colorSet, known, offSolved}
 use Rattle.puzzles.specs.Walk.{Walk, got, stop, readPuzzle}
 
@@ -34,17 +34,18 @@ meaningChecks z =
     (andThen (solvedChecks (colors z) (z .masks))
     (accepted (colors z)))))
 
-unfoldable pub checksOf : Walk Puzzle → Verdict
-checksOf (got z i ws) = refuse (ltb 0 (length ws)) 11 i (meaningChecks z)
-checksOf (stop k p) = refused k p
+-- the walk, then 11; and else the place where the cells begin
+unfoldable pub sectionsOf : Walk Puzzle → Verdict
+sectionsOf (got z i ws) = refuse (ltb 0 (length ws)) 11 i (accepted (cellsAt z))
+sectionsOf (stop k p) = refused k p
 
 unfoldable pub puzzleOf : Walk Puzzle → Puzzle
 puzzleOf (got z i ws) = z
 puzzleOf (stop k p) = record { columns = []; rows = []; masks = [] }
 
--- the refusals of puzzle words, and the puzzle that accepted words hold
-abbrev pub puzzleChecks : List ℕ → Verdict
-puzzleChecks ws = checksOf (readPuzzle ws)
-
+-- the puzzle that words hold, and their refusals
 abbrev pub puzzle : List ℕ → Puzzle
 puzzle ws = puzzleOf (readPuzzle ws)
+
+abbrev pub puzzleChecks : List ℕ → Verdict
+puzzleChecks ws = andThen (sectionsOf (readPuzzle ws)) (meaningChecks (puzzle ws))

@@ -38,6 +38,13 @@ cellsWords masks = length masks ∷ masks
 unfoldable pub puzzleWords : Puzzle → List ℕ
 puzzleWords z = linesWords (z .columns) ++ (linesWords (z .rows) ++ cellsWords (z .masks))
 
+-- where the rows and the cells begin
+unfoldable pub rowsAt : Puzzle → ℕ
+rowsAt z = length (linesWords (z .columns))
+
+unfoldable pub cellsAt : Puzzle → ℕ
+cellsAt z = rowsAt z + length (linesWords (z .rows))
+
 -- ---- its lines, columns from 0, rows from width
 
 abbrev pub lines : Puzzle → ℕ

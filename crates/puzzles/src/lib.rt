@@ -1,1 +1,3 @@
 // Puzzle words: what they hold, their refusals, and the table of their lines.
+pub mod check;
+pub mod section;

@@ -1,0 +1,33 @@
+// The walk over all sections.
+use crate::section::read_cells;
+use crate::section::read_lines;
+use lists::wide;
+use refusals::Answer;
+use refusals::Refusal;
+ghost use mathlib.Core.Path.{_≡_};
+ghost use Rattle.refusals.specs.Told.{told};
+ghost use Rattle.puzzles.specs.Walk.{readPuzzle};
+ghost use Rattle.puzzles.specs.Checks.{sectionsOf};
+
+// Where the words are the three sections and no more: the place where the cells begin.
+pub fn check_sections(words: &[u32]) -> Answer
+    ensures { λ r. ⌜ told r ≡ sectionsOf (readPuzzle (now (words .entry))) ⌝ }
+{
+    let columns = read_lines(words, 0);
+    let Answer::Accepted(rows) = columns else {
+        return columns;
+    };
+    let read = read_lines(&words[rows..], rows);
+    let Answer::Accepted(cells) = read else {
+        return read;
+    };
+    let area = wide(words[0]) * wide(words[rows]);
+    let masks = read_cells(area, &words[cells..], cells);
+    let Answer::Accepted(end) = masks else {
+        return masks;
+    };
+    if end < words.len() {
+        return Answer::Refused(Refusal::LeftOver(end));
+    }
+    Answer::Accepted(cells)
+}
