@@ -1,22 +1,24 @@
 -- What the checks of a clue and of a line give, by the way that they go; and what holds of a clue that they accept.
-use mathlib.Core.Path.{_≡_}
+use mathlib.Core.Path.{_≡_, refl}
 use mathlib.Core.Bool.{true, false}
-use mathlib.Core.List.{List}
-use Prim.Native.Nat.{ℕ, _+_, _/_, _%_, _≤_, _<_}
+use mathlib.Core.List.{List, [], _∷_}
+use Prim.Native.Nat.{ℕ, suc, _+_, _/_, _%_, _≤_, _<_}
 use native.Mathlib.Omega.{arith}
 use lib.ListN.{length, drop, getD, drop-of-length-le}
 use lib.Dec.{eqb, ltb}
 use borrow.Author.Tests.{eq-eqb, ne-eqb, lt-ltb, le-ltb, ltb-false}
 use Rattle.lists.proofs.Dropping.{drop-one}
 use Rattle.lists.proofs.Tests.{neither}
-use Rattle.refusals.specs.Verdict.{accepted, refused}
+use Rattle.refusals.specs.Verdict.{accepted, refused, refuse}
 use Rattle.refusals.specs.Told.{told}
 use Rattle.refusals.specs.declared.Refusal.{Refusal}
 use Rattle.refusals.specs.declared.Answer.{Answer}
 use Rattle.refusals.specs.declared.Answer.the-variants.{Refused}
 use Rattle.refusals.proofs.Answering.{handed-up, refuse-accepted, then-accepted}
-use Rattle.lines.specs.Clue.{blocks, gap, minSpace}
+use Rattle.lines.specs.Clue.{Block, words, blocks, gap, minSpace}
+use Rattle.lines.specs.Arrangement.{Proper, blockAt}
 use Rattle.lines.specs.Calls.{offSize, blockChecks, clueChecks, byteChecks, lineChecks}
+use Rattle.lines.proofs.ClueWords.{words-length, blocks-words}
 
 -- ---- a clue
 
@@ -72,6 +74,22 @@ clue-ok n clue space e =
       space-is = same;
       fits = omega (arith, ltb-false n (minSpace gap (blocks clue)) (d .0));
     }
+
+-- a clue whose blocks have sizes and colours lacks nothing but room
+pub proper-checks : (i : ℕ) (bs : List Block) → Proper bs → ((b : ℕ) → b < length bs → blockAt bs b .color ≤ 31) → blockChecks i (words bs) ≡ accepted 0
+unfolding words blockChecks
+proper-checks i [] p c = refl
+proper-checks i (b ∷ bs) p c =
+    rw (ne-eqb (b .size) 0 (λ e. omega (arith, p .sizes 0 (omega arith))), ne-eqb (b .color) 0 (λ e. omega (arith, p .colors 0 (omega arith))), le-ltb 31 (b .color) (c 0 (omega arith)))
+    (proper-checks (i + 2) bs (record { sizes = λ k h. p .sizes (suc k) (omega arith); colors = λ k h. p .colors (suc k) (omega arith) }) (λ k h. c (suc k) (omega arith)))
+
+pub proper-clue : (n : ℕ) (bs : List Block) → offSize n ≡ false → length bs ≤ 64 → Proper bs → ((b : ℕ) → b < length bs → blockAt bs b .color ≤ 31)
+    → clueChecks n (words bs) ≡ refuse (ltb n (minSpace gap bs)) 6 0 (accepted (minSpace gap bs))
+unfolding clueChecks
+proper-clue n bs s few p c =
+    let odd : length (words bs) % 2 ≡ 1 → ⊥ = λ e. omega (arith, words-length bs) in
+    let half : length (words bs) / 2 ≤ 64 = omega (arith, words-length bs) in
+    rw (s, ne-eqb _ _ odd, le-ltb _ _ half, proper-checks 0 bs p c, blocks-words bs)
 
 -- ---- a line
 

@@ -2,7 +2,7 @@
 use mathlib.Core.Path.{_≡_, refl, sym, ap, _∙_}
 use mathlib.Core.Bool.{true, false}
 use mathlib.Core.List.{List, [], _∷_}
-use Prim.Native.Nat.{ℕ, _+_, _-_, _/_, _≤_, _<_}
+use Prim.Native.Nat.{ℕ, _+_, _-_, _*_, _/_, _≤_, _<_}
 use native.Mathlib.Nat.{not-suc-le-zero, le-of-suc-le-suc}
 use native.Mathlib.Omega.{arith}
 use lib.ListN.{length, drop, getD, set, length-drop}
@@ -11,7 +11,7 @@ use Rattle.lists.specs.Wrote.{Wrote}
 use Rattle.lists.proofs.Dropping.{drop-two}
 use Rattle.lists.proofs.Writing.{Filling, fill-first, fill-as, fill-space, fill-store, fill-done, wrote-then, wrote-sets}
 use Rattle.refusals.specs.Verdict.{accepted, refused}
-use Rattle.lines.specs.Clue.{Block, blocks, gap, packedFrom, packed, starts, lastEnd, minSpace, positions}
+use Rattle.lines.specs.Clue.{Block, words, blocks, gap, packedFrom, packed, starts, lastEnd, minSpace, positions}
 use Rattle.lines.specs.Calls.{offColor, blockChecks, startsWords}
 
 -- a list of fewer than two words holds no block
@@ -136,3 +136,15 @@ pub starts-wrote : (n : ℕ) (clue out : List ℕ) {p space used : ℕ} {out′ 
     → Wrote (starts (packed gap (blocks clue))) (set (set out 0 p) 1 space) 2 out′ used → Wrote (startsWords n clue) out 0 out′ used
 unfolding startsWords positions
 starts-wrote n clue out {p} {space} e m h w = rw (← m, ← e) (wrote-then (omega arith) (wrote-sets (p ∷ space ∷ []) out 0 h) w)
+
+-- ---- a clue's words and its blocks
+
+pub words-length : (bs : List Block) → length (words bs) ≡ 2 * length bs
+unfolding words
+words-length [] = refl
+words-length (b ∷ bs) = omega (arith, words-length bs)
+
+pub blocks-words : (bs : List Block) → blocks (words bs) ≡ bs
+unfolding words blocks
+blocks-words [] = refl
+blocks-words (b ∷ bs) = rw (blocks-words bs)

@@ -5,7 +5,7 @@ use Prim.Native.Nat.{ℕ, _+_, _-_, _≤_, _<_}
 use native.Mathlib.Omega.{arith}
 use native.Mathlib.Nat.{add-zero, zero-add, le-refl}
 use lib.ListN.{length, take, drop, set, take-append-drop, length-append, length-drop, drop-of-length-le}
-use lib.Seq.{take-at, drop-at, drop-drop, length-take-le, take-all, sets, sets-eq}
+use lib.Seq.{take-at, take-add, take-take, take-append-le, drop-at, drop-drop, length-take-le, take-all, sets, sets-eq}
 use borrow.Rule.Slice.PartMut.{putMid}
 use Rattle.lists.specs.Wrote.{Wrote, over}
 
@@ -34,6 +34,23 @@ module _ {A : Type 0} where
   pub wrote-kept : {ws out out₁ : List A} {at at₁ : ℕ} → at + length ws ≤ length out → Wrote ws out at out₁ at₁ → length out₁ ≡ length out
   wrote-kept {ws} {out} {out₁} {at} {at₁} h w =
       ap length (w .left) ∙ rw (length-append, length-append, length-drop, length-take-le at out (omega arith)) (omega (arith, w .next-is))
+
+  part-of : (k n : ℕ) (l : List A) → k ≤ length l → take n (drop k l) ≡ drop k (take (k + n) l)
+  part-of k n l h = sym (rw (take-add k n l) (drop-at (take k l) (take n (drop k l)) k (length-take-le k l h)))
+
+  -- what was written stands there
+  pub wrote-there : {ws out out₁ : List A} {at at₁ : ℕ} → at ≤ length out → Wrote ws out at out₁ at₁ → take (length ws) (drop at out₁) ≡ ws
+  wrote-there {ws} {out} {out₁} {at} {at₁} h w =
+      ap (λ (l : List A). take (length ws) (drop at l)) (w .left)
+      ∙ rw (drop-at (take at out) (ws ++ drop at₁ out) at (length-take-le at out h)) (take-at ws (drop at₁ out) (length ws) refl)
+
+  -- and what stood before it is as it was
+  pub wrote-before : {ws out out₁ : List A} {at at₁ : ℕ} → at ≤ length out → Wrote ws out at out₁ at₁ → (k n : ℕ) → k + n ≤ at → take n (drop k out₁) ≡ take n (drop k out)
+  wrote-before {ws} {out} {out₁} {at} {at₁} h w k n b =
+      let front : take (k + n) out₁ ≡ take (k + n) out =
+          ap (take (k + n)) (w .left) ∙ take-append-le (k + n) (take at out) _ (omega (arith, length-take-le at out h)) ∙ take-take (k + n) at out b in
+      let long : at ≤ length out₁ = omega (arith, ap length (w .left), length-append (take at out) (ws ++ drop at₁ out), length-take-le at out h) in
+      part-of k n out₁ (omega arith) ∙ ap (drop k) front ∙ sym (part-of k n out (omega arith))
 
   -- from the front on
   pub wrote-over : {ws out out₁ : List A} {at₁ : ℕ} → Wrote ws out 0 out₁ at₁ → out₁ ≡ over ws out

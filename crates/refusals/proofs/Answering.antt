@@ -7,7 +7,7 @@ use native.Mathlib.Nat.{zero-add}
 use native.Mathlib.Omega.{arith}
 use lib.ListN.{length}
 use borrow.Author.Tests.{lt-ltb, le-ltb}
-use Rattle.lists.specs.Wrote.{Wrote}
+use Rattle.lists.specs.Wrote.{Wrote, over}
 use Rattle.lists.proofs.Writing.{wrote-over}
 use Rattle.refusals.specs.declared.Refusal.{Refusal}
 use Rattle.refusals.specs.declared.Refusal.the-variants.{WordMissing, Size, TooManyBlocks, EmptyBlock, BlockColor, LineTooShort, CellCount, EmptyMask, ColumnColor, SolvedColor, LeftOver, OutputTooShort, ModelLength, ModelByte, FalseClause, TwoColors, OffGrid, ColorTooLarge, ProbeColor, TooManyProbeWords, DimacsLimit, ClauseWords, ProgramInput}
@@ -15,7 +15,7 @@ use Rattle.refusals.specs.declared.Answer.{Answer}
 use Rattle.refusals.specs.declared.Answer.the-variants.{Accepted, Refused}
 use Rattle.refusals.specs.Verdict.{Verdict, accepted, refused, number, place, refuse, andThen}
 use Rattle.refusals.specs.Told.{refusal, told}
-use Rattle.refusals.specs.Outcome.{Answers, Outcome}
+use Rattle.refusals.specs.Outcome.{Answers, Outcome, verdict, kept}
 
 pub refusal-is : (why : Refusal) → refusal why ≡ refused (number (refusal why)) (place (refusal why))
 refusal-is (WordMissing p) = refl
@@ -75,6 +75,25 @@ module _ {A : Type 0} (ws out : List A) {checks : Verdict} where
     answers-wrote h w =
         let used-is = w .next-is ∙ zero-add (length ws) in
         record { answer-is = rw (← e, le-ltb _ _ h, used-is); out-is = rw (← e, le-ltb _ _ h) (wrote-over w) }
+
+  -- and what its caller knows, where there was room
+  module _ {a : Answer} {out′ : List A} (given : Answers checks ws out a out′) (room : length ws ≤ length out) where
+    pub called-accepted : {used : ℕ} → a ≡ Accepted used → ((n : ℕ) × (accepted n ≡ checks)) × Wrote ws out 0 out′ used
+    unfolding over
+    called-accepted {used} r = go checks (ap told (sym r) ∙ given .answer-is) (given .out-is)
+      where
+        go : (v : Verdict) → accepted used ≡ verdict v ws out → out′ ≡ kept (verdict v ws out) ws out → ((n : ℕ) × (accepted n ≡ v)) × Wrote ws out 0 out′ used
+        go (accepted n) e f =
+            let u : accepted used ≡ accepted (length ws) = e ∙ rw (le-ltb _ _ room) in
+            let used-is : used ≡ length ws = cc in
+            ((n, refl), record { next-is = used-is ∙ sym (zero-add (length ws)); left = (rw (le-ltb _ _ room) at f) ∙ rw used-is })
+        go (refused k p) e f = let z : _≡_ {A = ℕ} 0 1 = cc in absurd (omega arith)
+
+    pub called-refused : {why : Refusal} → a ≡ Refused why → (n : ℕ) → accepted n ≡ checks → ⊥
+    called-refused {why} r n e =
+        let u : refused (number (refusal why)) (place (refusal why)) ≡ accepted (length ws) = sym (refusal-is why) ∙ ap told (sym r) ∙ given .answer-is ∙ rw (← e, le-ltb _ _ room) in
+        let z : _≡_ {A = ℕ} 0 1 = cc in
+        omega arith
 
   pub outcome-of : {answer : Answer} {out′ : List A} → Answers checks ws out answer out′ → {n p : ℕ} → n ≡ number (told answer) → p ≡ place (told answer)
       → Outcome checks ws out n p out′

@@ -4,6 +4,7 @@ use mathlib.Core.Bool.{Bool, true, false}
 use mathlib.Core.List.{List, [], _∷_}
 use Prim.Native.Nat.{ℕ, zero, suc, _+_, _≤_, _<_}
 use native.Mathlib.Omega.{arith}
+use native.Mathlib.Nat.{add-zero}
 use lib.ListN.{length, drop, getD, drop-of-length-le}
 use Rattle.lists.proofs.Dropping.{drop-one}
 use Rattle.refusals.specs.Verdict.{accepted, refused, firstOff}
@@ -44,3 +45,12 @@ module _ {A : Type 0} where
     unfolding firstOff
     off-none p [] h = refl
     off-none p (a ∷ l) h = rw (h 0 (omega arith)) (off-none (p + 1) l (λ i g. h (suc i) (omega arith)))
+
+    -- the first that offends, by its index
+    pub off-at : (p : ℕ) (l : List A) (i : ℕ) → i < length l → ((j : ℕ) → j < i → off (getD l j d) ≡ false) → off (getD l i d) ≡ true → firstOff off k p l ≡ refused k (p + i)
+    unfolding firstOff
+    off-at p [] i h before here = absurd (omega arith)
+    off-at p (a ∷ l) zero h before here = rw (here, add-zero)
+    off-at p (a ∷ l) (suc i) h before here =
+        let e : p + 1 + i ≡ p + suc i = omega arith in
+        rw (before 0 (omega arith), ← e) (off-at (p + 1) l i (omega arith) (λ j g. before (suc j) (omega arith)) here)
