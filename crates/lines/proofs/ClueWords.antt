@@ -2,16 +2,17 @@
 use mathlib.Core.Path.{_≡_, refl, sym, ap, _∙_}
 use mathlib.Core.Bool.{true, false}
 use mathlib.Core.List.{List, [], _∷_}
-use Prim.Native.Nat.{ℕ, _+_, _-_, _*_, _/_, _≤_, _<_}
+use Prim.Native.Nat.{ℕ, suc, _+_, _-_, _*_, _/_, _≤_, _<_}
 use native.Mathlib.Nat.{not-suc-le-zero, le-of-suc-le-suc}
 use native.Mathlib.Omega.{arith}
-use lib.ListN.{length, drop, getD, set, length-drop}
+use lib.ListN.{length, drop, getD, set, length-drop, List·getD-map}
 use borrow.Author.Tests.{eq-eqb, ne-eqb}
 use Rattle.lists.specs.Wrote.{Wrote}
 use Rattle.lists.proofs.Dropping.{drop-two}
 use Rattle.lists.proofs.Writing.{Filling, fill-first, fill-as, fill-space, fill-store, fill-done, wrote-then, wrote-sets}
 use Rattle.refusals.specs.Verdict.{accepted, refused}
 use Rattle.lines.specs.Clue.{Block, words, blocks, gap, packedFrom, packed, starts, lastEnd, minSpace, positions}
+use Rattle.lines.specs.Arrangement.{at}
 use Rattle.lines.specs.Calls.{offColor, blockChecks, startsWords}
 
 -- a list of fewer than two words holds no block
@@ -24,11 +25,11 @@ short {A} f a e₀ e₁ l i h = go (drop i l) (omega (arith, length-drop i l))
     go (x ∷ y ∷ l) h = absurd (not-suc-le-zero (le-of-suc-le-suc h))
 
 module _ (l : List ℕ) (i : ℕ) where
-  blocks-next : i + 1 < length l → blocks (drop i l) ≡ record { size = getD l i 0; color = getD l (i + 1) 0 } ∷ blocks (drop (i + 2) l)
+  pub blocks-next : i + 1 < length l → blocks (drop i l) ≡ record { size = getD l i 0; color = getD l (i + 1) 0 } ∷ blocks (drop (i + 2) l)
   unfolding blocks
   blocks-next h = rw (drop-two 0 l i h)
 
-  blocks-done : length l ≤ i + 1 → blocks (drop i l) ≡ []
+  pub blocks-done : length l ≤ i + 1 → blocks (drop i l) ≡ []
   unfolding blocks
   blocks-done = short blocks [] refl (λ x. refl) l i
 
@@ -148,3 +149,28 @@ pub blocks-words : (bs : List Block) → blocks (words bs) ≡ bs
 unfolding words blocks
 blocks-words [] = refl
 blocks-words (b ∷ bs) = rw (blocks-words bs)
+
+-- ---- what the starts call writes of a clue
+
+module _ (n : ℕ) (bs : List Block) where
+  pub starts-size : length (startsWords n (words bs)) ≡ 2 + length bs
+  starts-size = omega (arith, starts-words-length n (words bs), words-length bs)
+
+  pub starts-positions : getD (startsWords n (words bs)) 0 0 ≡ positions gap n bs
+  unfolding startsWords
+  starts-positions = rw (blocks-words bs)
+
+  pub starts-space : getD (startsWords n (words bs)) 1 0 ≡ minSpace gap bs
+  unfolding startsWords
+  starts-space = rw (blocks-words bs)
+
+  pub starts-start : (b : ℕ) → getD (startsWords n (words bs)) (2 + b) 0 ≡ at (packed gap bs) b .start
+  unfolding startsWords
+  starts-start b =
+      let e : 2 + b ≡ suc (suc b) = omega arith in
+      rw (blocks-words bs, e) (List·getD-map (λ r. r .start) (packed gap bs) b (record { start = 0; size = 0; color = 0 }))
+
+-- with no block there is one position more than cells, and never more
+pub positions-bound : (n : ℕ) (bs : List Block) → positions gap n bs ≤ n + 1
+unfolding positions
+positions-bound n bs = omega arith

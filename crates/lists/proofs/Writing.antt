@@ -4,8 +4,8 @@ use mathlib.Core.List.{List, [], _∷_, _++_, append-assoc, append-nil}
 use Prim.Native.Nat.{ℕ, _+_, _-_, _≤_, _<_}
 use native.Mathlib.Omega.{arith}
 use native.Mathlib.Nat.{add-zero, zero-add, le-refl}
-use lib.ListN.{length, take, drop, set, take-append-drop, length-append, length-drop, drop-of-length-le}
-use lib.Seq.{take-at, take-add, take-take, take-append-le, drop-at, drop-drop, length-take-le, take-all, sets, sets-eq}
+use lib.ListN.{length, take, drop, getD, set, take-append-drop, length-append, length-drop, drop-of-length-le}
+use lib.Seq.{take-at, take-add, take-take, take-append-le, drop-at, drop-drop, length-take-le, take-all, getD-take, getD-drop, sets, sets-eq}
 use borrow.Rule.Slice.PartMut.{putMid}
 use Rattle.lists.specs.Wrote.{Wrote, over}
 
@@ -43,6 +43,10 @@ module _ {A : Type 0} where
   wrote-there {ws} {out} {out₁} {at} {at₁} h w =
       ap (λ (l : List A). take (length ws) (drop at l)) (w .left)
       ∙ rw (drop-at (take at out) (ws ++ drop at₁ out) at (length-take-le at out h)) (take-at ws (drop at₁ out) (length ws) refl)
+
+  pub wrote-at : {ws out out₁ : List A} {at at₁ : ℕ} → at ≤ length out → Wrote ws out at out₁ at₁ → (i : ℕ) (d : A) → i < length ws → getD out₁ (at + i) d ≡ getD ws i d
+  wrote-at {ws} {out} {out₁} {at} {at₁} h w i d l =
+      sym (getD-drop at out₁ i d) ∙ sym (getD-take (length ws) (drop at out₁) i d l) ∙ ap (λ (k : List A). getD k i d) (wrote-there h w)
 
   -- and what stood before it is as it was
   pub wrote-before : {ws out out₁ : List A} {at at₁ : ℕ} → at ≤ length out → Wrote ws out at out₁ at₁ → (k n : ℕ) → k + n ≤ at → take n (drop k out₁) ≡ take n (drop k out)

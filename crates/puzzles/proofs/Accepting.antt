@@ -16,7 +16,7 @@ use Rattle.lines.specs.Clue.{Block, gap, minSpace}
 use Rattle.lines.specs.Calls.{offSize}
 use Rattle.lines.specs.Arrangement.{Proper, blockAt}
 use Rattle.lines.proofs.Checks.{size-within}
-use Rattle.puzzles.specs.Puzzle.{Puzzle, width, height, lines, clueAt, lengthAt, puzzleWords}
+use Rattle.puzzles.specs.Puzzle.{Puzzle, width, height, lines, clueAt, lengthAt, puzzleWords, rowsAt}
 use Rattle.puzzles.specs.Colors.{known, offSolved}
 use Rattle.puzzles.specs.Walk.{Walk, got, stop, readPuzzle}
 use Rattle.puzzles.specs.Checks.{colors, spaceChecks, columnChecks, solvedChecks, meaningChecks, sectionsOf, puzzleOf, puzzleChecks, puzzle}
@@ -53,8 +53,23 @@ not-false : (b : Bool) → not b ≡ false → b ≡ true
 not-false true e = refl
 not-false false e = absurd (true≢false e)
 
-clue-proper : (bs : List Block) → FineClue bs → Proper bs
-clue-proper bs F = record { sizes = λ b h. F .1 b h .sized; colors = λ b h. F .1 b h .colored }
+-- a line whose clue was read
+pub record FineLine (n : ℕ) (bs : List Block) : Type 0 where
+  pub sized : offSize n ≡ false
+  pub few : length bs ≤ 64
+  pub proper : Proper bs
+  pub colors-most : (b : ℕ) → b < length bs → blockAt bs b .color ≤ 31
+
+fine-line : (n : ℕ) (bs : List Block) → offSize n ≡ false → FineClue bs → FineLine n bs
+fine-line n bs s F = record {
+  sized = s;
+  few = ltb-false 64 (length bs) (F .0);
+  proper = record { sizes = λ b h. F .1 b h .sized; colors = λ b h. F .1 b h .colored };
+  colors-most = λ b h. F .1 b h .color-most;
+}
+
+pub fine-lines : (z : Puzzle) → FinePuzzle z → (l : ℕ) → l < lines z → FineLine (lengthAt z l) (clueAt z l)
+fine-lines z F = each-line z FineLine (λ l h. fine-line (height z) _ (F .rows .0) (F .columns .1 l h)) (λ l h. fine-line (width z) _ (F .columns .0) (F .rows .1 l h))
 
 module _ (z : Puzzle) where
   good-of : {n : ℕ} → FinePuzzle z → accepted n ≡ meaningChecks z → Good z × (n ≡ colors z)
@@ -68,16 +83,16 @@ module _ (z : Puzzle) where
       let R = first-accepted (spaceChecks (width z) (width z) (z .rows)) _ c in
       let K = first-accepted (columnChecks (colors z) (z .columns)) _ r in
       let M = first-accepted (solvedChecks (colors z) (z .masks)) _ k in
-      let fine : (l : ℕ) → l < lines z → FineClue (clueAt z l) = each-line z (λ n bs. FineClue bs) (F .columns .1) (F .rows .1) in
+      let fine = fine-lines z F in
       (
         record {
           width-some = size-some (width z) (F .columns .0);
           width-most = size-within (width z) (F .columns .0);
           height-some = size-some (height z) (F .rows .0);
           height-most = size-within (height z) (F .rows .0);
-          few = λ l h. ltb-false 64 (length (clueAt z l)) (fine l h .0);
-          proper = λ l h. clue-proper (clueAt z l) (fine l h);
-          colors-most = λ l b h g. fine l h .1 b g .color-most;
+          few = λ l h. fine l h .few;
+          proper = λ l h. fine l h .proper;
+          colors-most = λ l b h g. fine l h .colors-most b g;
           fits = each-line z (λ n bs. minSpace gap bs ≤ n)
               (λ l h. ltb-false _ _ (none-off [] (λ bs. ltb (height z) (minSpace gap bs)) 6 0 (z .columns) (C .1) l h))
               (λ l h. ltb-false _ _ (none-off [] (λ bs. ltb (width z) (minSpace gap bs)) 6 (width z) (z .rows) (R .1) l h));
@@ -137,21 +152,32 @@ pub record Accepted (ws : List ℕ) (n : ℕ) : Type 0 where
   pub good : Good (puzzle ws)
   pub colors-are : n ≡ colors (puzzle ws)
 
-accepted-walk : (ws : List ℕ) {n : ℕ} (w : Walk Puzzle) → readPuzzle ws ≡ w → accepted n ≡ andThen (sectionsOf w) (meaningChecks (puzzleOf w)) → (ws ≡ puzzleWords (puzzleOf w)) × (Good (puzzleOf w)) × (n ≡ colors (puzzleOf w))
+-- what holds once the sections are read
+pub record Walked (ws : List ℕ) (n : ℕ) : Type 0 where
+  pub words-are : ws ≡ puzzleWords (puzzle ws)
+  pub fine : FinePuzzle (puzzle ws)
+  pub rows-are : n ≡ rowsAt (puzzle ws)
+
+walked-by : (ws : List ℕ) {n : ℕ} (w : Walk Puzzle) → readPuzzle ws ≡ w → accepted n ≡ sectionsOf w → (ws ≡ puzzleWords (puzzleOf w)) × FinePuzzle (puzzleOf w) × (n ≡ rowsAt (puzzleOf w))
 unfolding sectionsOf puzzleOf
-accepted-walk ws (got z j us) e a =
-    let c = first-accepted (sectionsOf (got z j us)) _ a in
-    let r = refuse-accepted (ltb 0 (length us)) _ _ _ (c .1) in
+walked-by ws (got z j us) e a =
+    let r = refuse-accepted (ltb 0 (length us)) _ _ _ a in
     let P = puzzle-only ws z j us e in
-    let g = good-of z (P .fine) (then-accepted (sectionsOf (got z j us)) _ a) in
     let n : us ≡ [] = nothing us (ltb-false 0 (length us) (r .0)) in
-    (P .words-are ∙ rw (n, append-nil), g .0, g .1)
+    (P .words-are ∙ rw (n, append-nil), P .fine, cc)
   where
     nothing : (us : List ℕ) → length us ≤ 0 → us ≡ []
     nothing [] h = refl
     nothing (u ∷ us) h = absurd (omega arith)
-accepted-walk ws (stop k p) e a = let z : _≡_ {A = ℕ} 0 1 = cc in absurd (omega arith)
+walked-by ws (stop k p) e a = let z : _≡_ {A = ℕ} 0 1 = cc in absurd (omega arith)
+
+pub walked-is : (ws : List ℕ) {n : ℕ} → accepted n ≡ sectionsOf (readPuzzle ws) → Walked ws n
+walked-is ws e = let a = walked-by ws (readPuzzle ws) refl e in record { words-are = a .0; fine = a .1; rows-are = a .2 }
 
 -- the one inversion: all that holds of accepted words
 pub accepted-is : (ws : List ℕ) {n : ℕ} → accepted n ≡ puzzleChecks ws → Accepted ws n
-accepted-is ws e = let a = accepted-walk ws (readPuzzle ws) refl e in record { words-are = a .0; good = a .1; colors-are = a .2 }
+accepted-is ws e =
+    let s = first-accepted (sectionsOf (readPuzzle ws)) (meaningChecks (puzzle ws)) e in
+    let W = walked-is ws (s .1) in
+    let g = good-of (puzzle ws) (W .fine) (then-accepted (sectionsOf (readPuzzle ws)) (meaningChecks (puzzle ws)) e) in
+    record { words-are = W .words-are; good = g .0; colors-are = g .1 }

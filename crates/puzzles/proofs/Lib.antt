@@ -4,3 +4,5 @@ pub mod Lines
 pub mod Accepting
 pub mod Sections
 pub mod Places
+pub mod Beginning
+pub mod Laying

@@ -15,7 +15,7 @@ use Rattle.refusals.specs.declared.Answer.{Answer}
 use Rattle.refusals.specs.declared.Answer.the-variants.{Accepted, Refused}
 use Rattle.refusals.proofs.Answering.{refusal-is}
 use Rattle.lines.proofs.Checks.{size-within}
-use Rattle.puzzles.specs.Puzzle.{Puzzle, linesWords, cellsWords, rowsAt, cellsAt}
+use Rattle.puzzles.specs.Puzzle.{Puzzle, linesWords, cellsWords, rowsAt}
 use Rattle.puzzles.specs.Walk.{Walk, got, stop, outcome, readLines, readCells, readPuzzle}
 use Rattle.puzzles.specs.Checks.{sectionsOf}
 use Rattle.puzzles.proofs.Walking.{outcome-got}
@@ -91,10 +91,10 @@ module _ (words : List ℕ) where
         unfolding readPuzzle sectionsOf
         left-over l = rw (C .got-is, R .got-is, ← area-is, M .got-is, lt-ltb 0 (length (drop end words)) (omega (arith, length-drop end words)))
 
-        pub sections-are : length words ≤ end → accepted cells ≡ sectionsOf (readPuzzle words)
-        unfolding readPuzzle sectionsOf cellsAt rowsAt
+        pub sections-are : length words ≤ end → accepted rows ≡ sectionsOf (readPuzzle words)
+        unfolding readPuzzle sectionsOf rowsAt
         sections-are l =
-            let p : cells ≡ length (linesWords (C .value)) + length (linesWords (R .value)) = omega (arith, C .place-is, R .place-is) in
+            let p : rows ≡ length (linesWords (C .value)) = omega (arith, C .place-is) in
             rw (C .got-is, R .got-is, ← area-is, M .got-is, le-ltb 0 (length (drop end words)) (omega (arith, length-drop end words)), ← p)
 
 pub area-most : (w h : ℕ) → w ≤ 64 → h ≤ 64 → w * h ≤ 4096

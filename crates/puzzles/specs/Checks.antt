@@ -1,4 +1,5 @@
 -- Document 01, "Refusal numbers": the order for a puzzle. After the walk come 11; 6 by line; 9; 10; and else the colour set K.
+use mathlib.Core.Path.{_≡_}
 use mathlib.Core.Bool.{Bool, not}
 use mathlib.Core.List.{List, []}
 use Prim.Native.Nat.{ℕ}
@@ -6,7 +7,7 @@ use lib.Dec.{ltb}
 use lib.ListN.{length}
 use Rattle.refusals.specs.Verdict.{Verdict, accepted, refused, refuse, andThen, firstOff}
 use Rattle.lines.specs.Clue.{Block, gap, minSpace}
-use Rattle.puzzles.specs.Puzzle.{Puzzle, width, height, cellsAt}
+use Rattle.puzzles.specs.Puzzle.{Puzzle, width, height, rowsAt}
 use Rattle.puzzles.specs.Colors.{colorSet, known, offSolved}
 use Rattle.puzzles.specs.Walk.{Walk, got, stop, readPuzzle}
 
@@ -34,9 +35,9 @@ meaningChecks z =
     (andThen (solvedChecks (colors z) (z .masks))
     (accepted (colors z)))))
 
--- the walk, then 11; and else the place where the cells begin
+-- the walk, then 11; and else the place where the rows begin
 unfoldable pub sectionsOf : Walk Puzzle → Verdict
-sectionsOf (got z i ws) = refuse (ltb 0 (length ws)) 11 i (accepted (cellsAt z))
+sectionsOf (got z i ws) = refuse (ltb 0 (length ws)) 11 i (accepted (rowsAt z))
 sectionsOf (stop k p) = refused k p
 
 unfoldable pub puzzleOf : Walk Puzzle → Puzzle
@@ -46,6 +47,10 @@ puzzleOf (stop k p) = record { columns = []; rows = []; masks = [] }
 -- the puzzle that words hold, and their refusals
 abbrev pub puzzle : List ℕ → Puzzle
 puzzle ws = puzzleOf (readPuzzle ws)
+
+-- they are the three sections and no more
+abbrev pub Sectioned : List ℕ → Type 0
+Sectioned ws = accepted (rowsAt (puzzle ws)) ≡ sectionsOf (readPuzzle ws)
 
 abbrev pub puzzleChecks : List ℕ → Verdict
 puzzleChecks ws = andThen (sectionsOf (readPuzzle ws)) (meaningChecks (puzzle ws))

@@ -2,8 +2,8 @@
 -- and then what the starts call writes of it.
 use mathlib.Core.Path.{_≡_}
 use mathlib.Core.Bool.{cond}
-use mathlib.Core.List.{List, [], _∷_, _++_}
-use Prim.Native.Nat.{ℕ, zero, suc, _+_, _*_, _<_}
+use mathlib.Core.List.{List, _∷_, _++_}
+use Prim.Native.Nat.{ℕ, zero, suc, _+_, _*_, _≤_, _<_}
 use lib.Dec.{ltb}
 use lib.ListN.{length, take, drop}
 use Rattle.lines.specs.Clue.{gap, words, positions}
@@ -14,10 +14,11 @@ use Rattle.puzzles.specs.Puzzle.{Puzzle, width, lines, cluesWords, clueA
 unfoldable pub beginAt : Puzzle → ℕ → ℕ
 beginAt z l = cond (ltb l (width z)) 1 2 + length (cluesWords (take l (z .columns ++ z .rows)))
 
+-- the positions of each of its blocks
 abbrev pub positionsAt : Puzzle → ℕ → ℕ
 positionsAt z l = positions gap (lengthAt z l) (clueAt z l)
 
--- the variables of the lines before it, and one more
+-- a variable for each position of each block of the lines before it, counted from 1
 unfoldable pub firstAt : Puzzle → ℕ → ℕ
 firstAt z zero = 1
 firstAt z (suc l) = firstAt z l + length (clueAt z l) * positionsAt z l
@@ -31,3 +32,10 @@ LineLaid z table l = take (length (lineWords z l)) (drop (68 * l) table) ≡ lin
 
 abbrev pub Laid : Puzzle → List ℕ → Type 0
 Laid z table = (l : ℕ) → l < lines z → LineLaid z table l
+
+-- where the loop that lays them stands, before line l
+pub record Standing (z : Puzzle) (l at first : ℕ) : Type 0 where
+  pub at-is : at ≡ beginAt z l
+  pub at-most : at ≤ 1 + 130 * l
+  pub first-is : first ≡ firstAt z l
+  pub first-most : first ≤ 1 + 4160 * l

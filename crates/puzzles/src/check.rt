@@ -9,7 +9,7 @@ ghost use Rattle.refusals.specs.Told.{told};
 ghost use Rattle.puzzles.specs.Walk.{readPuzzle};
 ghost use Rattle.puzzles.specs.Checks.{sectionsOf};
 
-// Where the words are the three sections and no more: the place where the cells begin.
+// Where the words are the three sections and no more: the place where the rows begin.
 pub fn check_sections(words: &[u32]) -> Answer
     ensures { λ r. ⌜ told r ≡ sectionsOf (readPuzzle (now (words .entry))) ⌝ }
 {
@@ -29,5 +29,5 @@ pub fn check_sections(words: &[u32]) -> Answer
     if end < words.len() {
         return Answer::Refused(Refusal::LeftOver(end));
     }
-    Answer::Accepted(cells)
+    Answer::Accepted(rows)
 }

@@ -1,3 +1,4 @@
 // Puzzle words: what they hold, their refusals, and the table of their lines.
 pub mod check;
 pub mod section;
+pub mod table;

@@ -1,0 +1,57 @@
+// The table of a puzzle's lines, laid once per call: 68 words a line.
+use lines::clue::starts;
+use lists::put_pair;
+use lists::wide;
+use refusals::Answer;
+use refusals::Refusal;
+ghost use mathlib.Core.Path.{_≡_};
+ghost use mathlib.Core.Bool.{cond};
+ghost use Prim.Native.Nat.{ℕ, _+_, _*_, _^_, _≤_, _<_};
+ghost use lib.Dec.{eqb, ltb};
+ghost use lib.ListN.{length};
+ghost use Rattle.lists.specs.Wrote.{Wrote};
+ghost use Rattle.refusals.specs.Told.{told};
+ghost use Rattle.refusals.specs.Verdict.{accepted, refuse, andThen};
+ghost use Rattle.lines.specs.Clue.{gap, minSpace};
+ghost use Rattle.puzzles.specs.Puzzle as P;
+ghost use Rattle.puzzles.specs.Checks.{puzzle, Sectioned, spaceChecks};
+ghost use Rattle.puzzles.specs.Table.{positionsAt, lineWords, Laid, Standing};
+
+// The cells of line l.
+fn line_length(l: usize, width: usize, height: usize) -> usize
+    ensures { λ r. ⌜ r ≡ cond (ltb l width) height width ⌝ }
+{
+    if l < width { height } else { width }
+}
+
+// The end of line l's clue, past the rows' count after the last column.
+fn next_begin(end: usize, l: usize, width: usize) -> usize
+    requires { ⌜ (end < 2 ^ 32) × (l < 2 ^ 32) ⌝ }
+    ensures { λ r. ⌜ r ≡ end + cond (eqb (l + 1) width) 1 0 ⌝ }
+{
+    if l + 1 == width { end + 1 } else { end }
+}
+
+// Lays line l, and answers how many variables it has; 6 where its clue needs more than its length.
+fn lay_line(
+    words: &[u32],
+    l: usize,
+    cells: usize,
+    at: usize,
+    first: usize,
+    table: &mut [u32],
+) -> Answer
+    requires { ⌜ Sectioned (now words) ⌝ }
+    requires { ⌜ Standing (puzzle (now words)) l at first ⌝ }
+    requires { ⌜ (l < P.lines (puzzle (now words))) × (cells ≡ P.lengthAt (puzzle (now words)) l) × (8704 ≤ length (now table)) ⌝ }
+    ensures { λ r. ⌜ told r ≡ refuse (ltb cells (minSpace gap (P.clueAt (puzzle (now (words .entry))) l))) 6 l (accepted (length (P.clueAt (puzzle (now (words .entry))) l) * positionsAt (puzzle (now (words .entry))) l)) ⌝ }
+    ensures { λ r. ⌜ (minSpace gap (P.clueAt (puzzle (now (words .entry))) l) ≤ cells → (next : ℕ) × Wrote (lineWords (puzzle (now (words .entry))) l) (now (table .entry)) (68 * l) (now (table .exit)) next) ⌝ }
+{
+    let n = wide(words[at]);
+    let to = put_pair(at as u32, first as u32, table, 68 * l);
+    let answer = starts(cells, &words[at + 1..at + 1 + 2 * n], &mut table[to..]);
+    let Answer::Accepted(_) = answer else {
+        return Answer::Refused(Refusal::LineTooShort(l));
+    };
+    Answer::Accepted(n * wide(table[to]))
+}
