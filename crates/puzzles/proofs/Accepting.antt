@@ -19,10 +19,10 @@ use Rattle.lines.proofs.Checks.{size-within}
 use Rattle.puzzles.specs.Puzzle.{Puzzle, width, height, lines, clueAt, lengthAt, puzzleWords, rowsAt}
 use Rattle.puzzles.specs.Colors.{known, offSolved}
 use Rattle.puzzles.specs.Walk.{Walk, got, stop, readPuzzle}
-use Rattle.puzzles.specs.Checks.{colors, spaceChecks, columnChecks, solvedChecks, meaningChecks, sectionsOf, puzzleOf, puzzleChecks, puzzle}
+use Rattle.puzzles.specs.Checks.{colors, spaceChecks, columnChecks, solvedChecks, spaces, meaningChecks, sectionsOf, puzzleOf, puzzleChecks, puzzle}
 use Rattle.puzzles.specs.Good.{Good}
 use Rattle.puzzles.proofs.Readers.{Each, FineBlock, FineClue, FineLines, FinePuzzle, Reads, puzzle-only, puzzle-back}
-use Rattle.puzzles.proofs.Lines.{clue-column, clue-row, length-column, length-row, each-line}
+use Rattle.puzzles.proofs.Lines.{clue-column, clue-row, each-line, spaces-fit}
 
 -- ---- colours that are known
 
@@ -73,7 +73,7 @@ fine-lines z F = each-line z FineLine (λ l h. fine-line (height z) _ (F .rows .
 
 module _ (z : Puzzle) where
   good-of : {n : ℕ} → FinePuzzle z → accepted n ≡ meaningChecks z → Good z × (n ≡ colors z)
-  unfolding meaningChecks
+  unfolding meaningChecks spaces
   good-of {n} F e =
       let c = then-accepted (spaceChecks (height z) 0 (z .columns)) _ e in
       let r = then-accepted (spaceChecks (width z) (width z) (z .rows)) _ c in
@@ -119,14 +119,10 @@ module _ (z : Puzzle) where
       masks = (rw (eq-eqb _ _ (G .area)), G .masks-some);
     }
 
-    spaces : (l : ℕ) → l < lines z → ltb (lengthAt z l) (minSpace gap (clueAt z l)) ≡ false
-    spaces l h = le-ltb _ _ (G .fits l h)
-
     meaning-of : meaningChecks z ≡ accepted (colors z)
     unfolding meaningChecks
     meaning-of = rw (
-      off-none [] (λ bs. ltb (height z) (minSpace gap bs)) 6 0 (z .columns) (λ l h. rw (clue-column z l h, length-column z l h) at (spaces l (omega arith))),
-      off-none [] (λ bs. ltb (width z) (minSpace gap bs)) 6 (width z) (z .rows) (λ l h. rw (clue-row z l, length-row z l) at (spaces (width z + l) (omega arith))),
+      spaces-fit z (G .fits) (andThen (columnChecks (colors z) (z .columns)) (andThen (solvedChecks (colors z) (z .masks)) (accepted (colors z)))),
       off-none [] (λ bs. not (known (colors z) bs)) 9 0 (z .columns)
           (λ l h. rw (each-known (colors z) (getD (z .columns) l []) (λ b g. rw (clue-column z l h) at (G .columns-known l b h (rw (clue-column z l h) g))))),
       off-none 0 (offSolved (colors z)) 10 0 (z .masks) (G .solved-known),

@@ -8,27 +8,28 @@ use native.Mathlib.Nat.{mul-le-mul-right}
 use native.Mathlib.Decide.{decLt}
 use lib.Dec.{eqb, ltb}
 use lib.ListN.{length, take, drop, getD, set, length-drop, length-set}
-use borrow.Author.Tests.{lt-ltb, le-ltb, ltb-false}
+use borrow.Author.Tests.{lt-ltb, le-ltb, ltb-true, ltb-false}
 use borrow.Rule.Slice.PartMut.{putMid}
 use Rattle.lists.specs.Wrote.{Wrote}
 use Rattle.lists.proofs.Writing.{wrote-sets, wrote-then, wrote-tail, wrote-there, wrote-before, wrote-at, wrote-kept, tail-is}
-use Rattle.refusals.specs.Verdict.{accepted, refused, refuse}
+use Rattle.refusals.specs.Verdict.{Verdict, accepted, refuse}
 use Rattle.refusals.specs.Told.{told}
 use Rattle.refusals.specs.Outcome.{Answers}
 use Rattle.refusals.specs.declared.Refusal.{Refusal}
 use Rattle.refusals.specs.declared.Answer.{Answer}
 use Rattle.refusals.specs.declared.Answer.the-variants.{Accepted, Refused}
-use Rattle.refusals.proofs.Answering.{refuse-accepted, called-accepted, called-refused}
+use Rattle.refusals.proofs.Answering.{refuse-accepted, told-refused, told-accepted, called-accepted, called-refused}
 use Rattle.lines.specs.Clue.{Block, words, gap, minSpace, positions}
 use Rattle.lines.specs.Calls.{clueChecks, startsWords}
 use Rattle.lines.proofs.Checks.{proper-clue, size-within}
 use Rattle.lines.proofs.ClueWords.{starts-size, starts-positions, positions-bound}
-use Rattle.puzzles.specs.Puzzle.{Puzzle, width, height, lines, clueAt, lengthAt}
-use Rattle.puzzles.specs.Checks.{puzzle, Sectioned}
-use Rattle.puzzles.specs.Table.{beginAt, firstAt, positionsAt, lineWords, LineLaid, Standing}
+use Rattle.puzzles.specs.Puzzle.{Puzzle, width, height, lines, cluesWords, clueAt, lengthAt, cellsAt}
+use Rattle.puzzles.specs.Checks.{puzzle, Sectioned, spaces}
+use Rattle.puzzles.specs.Table.{beginAt, firstAt, positionsAt, lineWords, LineLaid, Laid, Standing}
 use Rattle.puzzles.proofs.Readers.{FinePuzzle}
 use Rattle.puzzles.proofs.Accepting.{Walked, walked-is, FineLine, fine-lines}
-use Rattle.puzzles.proofs.Beginning.{Here, clue-here, begin-next}
+use Rattle.puzzles.proofs.Beginning.{Here, clue-here, begin-next, begin-cells}
+use Rattle.puzzles.proofs.Lines.{spaces-fit, spaces-short}
 
 pub line-size : (z : Puzzle) (l : ℕ) → length (lineWords z l) ≡ 4 + length (clueAt z l)
 unfolding lineWords
@@ -121,3 +122,89 @@ module _ (ws : List ℕ) (S : Sectioned ws) (l : ℕ) (h : l < lines (puzzle ws)
               ∙ wrote-at {at = to} (omega (arith, W .next-is, room .low, stored-long)) (wrote-tail (called-accepted _ _ called tail-room r .1)) 0 0 (omega (arith, starts-size cells (clueAt z l)))
               ∙ starts-positions cells (clueAt z l)
               ∙ rw ce
+
+-- ---- one after another
+
+-- the lines before l have room, and are laid
+pub record LayingLines (z : Puzzle) (table : List ℕ) (l at first : ℕ) : Type 0 where
+  pub within : l ≤ lines z
+  pub stands : Standing z l at first
+  pub fit : (j : ℕ) → j < l → minSpace gap (clueAt z j) ≤ lengthAt z j
+  pub laid : (j : ℕ) → j < l → LineLaid z table j
+
+pub laying-first : (z : Puzzle) (table : List ℕ) → 0 < width z → LayingLines z table 0 1 1
+unfolding beginAt firstAt cluesWords
+laying-first z table h = record {
+  within = omega arith;
+  stands = record { at-is = rw (lt-ltb 0 (width z) h); at-most = omega arith; first-is = refl; first-most = omega arith };
+  fit = λ j g. absurd (omega arith);
+  laid = λ j g. absurd (omega arith);
+}
+
+pub line-length-is : (z : Puzzle) (l : ℕ) {w h n : ℕ} → w ≡ width z → h ≡ height z → n ≡ cond (ltb l w) h w → n ≡ lengthAt z l
+unfolding lengthAt
+line-length-is z l we he e = e ∙ rw (we, he)
+
+-- what the call that lays line l told
+abbrev pub Told : Puzzle → ℕ → ℕ → Answer → Type 0
+Told z l cells a = told a ≡ refuse (ltb cells (minSpace gap (clueAt z l))) 6 l (accepted (length (clueAt z l) * positionsAt z l))
+
+module _ (ws : List ℕ) (S : Sectioned ws) {table : List ℕ} {l at first : ℕ} (L : LayingLines (puzzle ws) table l at first) (h : l < lines (puzzle ws)) where
+  pub laying-short : {cells : ℕ} → cells ≡ lengthAt (puzzle ws) l → {a : Answer} {why : Refusal} → a ≡ Refused why → Told (puzzle ws) l cells a → (v : Verdict) → told a ≡ spaces (puzzle ws) v
+  laying-short {cells} ce r t v =
+      let s = told-refused (ltb cells (minSpace gap (clueAt (puzzle ws) l))) _ _ _ r t in
+      let f : cells < minSpace gap (clueAt (puzzle ws) l) = ltb-true _ _ (s .0) in
+      s .1 ∙ spaces-short (puzzle ws) v l h (L .fit) (omega arith)
+
+  pub laying-vars : (cells : ℕ) {a : Answer} {v : ℕ} → a ≡ Accepted v → Told (puzzle ws) l cells a → v ≤ 4160
+  laying-vars cells r t =
+      omega (
+        arith,
+        told-accepted (ltb cells (minSpace gap (clueAt (puzzle ws) l))) _ _ _ r t .1,
+        variables-most (puzzle ws) l (line-fine ws S l h .few) (size-within _ (line-fine ws S l h .sized)),
+      )
+
+  pub laying-next : 8704 ≤ length table → {cells : ℕ} → cells ≡ lengthAt (puzzle ws) l → {a : Answer} {v : ℕ} → a ≡ Accepted v → Told (puzzle ws) l cells a → {table′ : List ℕ}
+      → (minSpace gap (clueAt (puzzle ws) l) ≤ cells → (next : ℕ) × Wrote (lineWords (puzzle ws) l) table (68 * l) table′ next)
+      → {n w at′ : ℕ} → n ≡ getD ws at 0 → w ≡ width (puzzle ws) → at′ ≡ at + 1 + 2 * n + cond (eqb (l + 1) w) 1 0
+      → LayingLines (puzzle ws) table′ (l + 1) at′ (first + v)
+  unfolding firstAt
+  laying-next long {cells} ce {v = v} r t wrote {n} {w = wide} {at′ = at′} ne we ae =
+      let R = room ws S l h (L .stands) in
+      let s = told-accepted (ltb cells (minSpace gap (clueAt (puzzle ws) l))) _ _ _ r t in
+      let fc : minSpace gap (clueAt (puzzle ws) l) ≤ cells = ltb-false _ _ (s .0) in
+      let f : minSpace gap (clueAt (puzzle ws) l) ≤ lengthAt (puzzle ws) l = omega arith in
+      let ve = s .1 in
+      let w = wrote fc .1 in
+      let m : n ≡ length (clueAt (puzzle ws) l) = ne ∙ R .count-is in
+      let low : 68 * l ≤ length table = omega (arith, R .low) in
+      let fine : (j : ℕ) → j < l → length (lineWords (puzzle ws) j) ≤ 68 = λ j g. omega (arith, line-size (puzzle ws) j, line-fine ws S j (omega arith) .few) in
+      let e : l + 1 ≡ suc l = omega arith in
+      record {
+        within = omega arith;
+        stands = record {
+          at-is = ae ∙ rw (we, m, L .stands .at-is) (sym (begin-next (puzzle ws) l h));
+          at-most = omega (arith, R, cond-most (eqb (l + 1) wide));
+          first-is = rw (e, ve, L .stands .first-is);
+          first-most = omega (arith, R, laying-vars cells r t);
+        };
+        fit = λ j g. elim (decLt j l) [ yes k ↦ L .fit j k | no k ↦ let q : j ≡ l = omega arith in rw q f ];
+        laid = λ j g. elim (decLt j l) [
+          | yes k ↦ wrote-before low w (68 * j) (length (lineWords (puzzle ws) j)) (omega (arith, fine j k)) ∙ L .laid j k
+          | no k ↦ let q : j ≡ l = omega arith in rw q (wrote-there low w)
+        ];
+      }
+    where
+      cond-most : (b : _) → cond b 1 0 ≤ 1
+      cond-most true = omega arith
+      cond-most false = omega arith
+
+module _ (ws : List ℕ) {table : List ℕ} {l at first : ℕ} (L : LayingLines (puzzle ws) table l at first) (left : lines (puzzle ws) ≤ l) where
+  h : lines (puzzle ws) ≡ l
+  h = omega (arith, L .within)
+
+  pub laying-done : accepted at ≡ spaces (puzzle ws) (accepted (cellsAt (puzzle ws)))
+  laying-done = rw (spaces-fit (puzzle ws) (λ j g. L .fit j (omega arith)) (accepted (cellsAt (puzzle ws))), L .stands .at-is, ← h, begin-cells (puzzle ws))
+
+  pub laying-laid : Laid (puzzle ws) table
+  laying-laid j g = L .laid j (omega arith)

@@ -27,13 +27,12 @@ solvedChecks K masks = firstOff (λ mask. offSolved K mask) 10 0 masks
 abbrev pub colors : Puzzle → ℕ
 colors z = colorSet (z .rows)
 
+-- 6, by line, and then what follows
+unfoldable pub spaces : Puzzle → Verdict → Verdict
+spaces z v = andThen (spaceChecks (height z) 0 (z .columns)) (andThen (spaceChecks (width z) (width z) (z .rows)) v)
+
 unfoldable pub meaningChecks : Puzzle → Verdict
-meaningChecks z =
-    andThen (spaceChecks (height z) 0 (z .columns))
-    (andThen (spaceChecks (width z) (width z) (z .rows))
-    (andThen (columnChecks (colors z) (z .columns))
-    (andThen (solvedChecks (colors z) (z .masks))
-    (accepted (colors z)))))
+meaningChecks z = spaces z (andThen (columnChecks (colors z) (z .columns)) (andThen (solvedChecks (colors z) (z .masks)) (accepted (colors z))))
 
 -- the walk, then 11; and else the place where the rows begin
 unfoldable pub sectionsOf : Walk Puzzle → Verdict

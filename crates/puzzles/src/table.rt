@@ -11,10 +11,10 @@ ghost use lib.Dec.{eqb, ltb};
 ghost use lib.ListN.{length};
 ghost use Rattle.lists.specs.Wrote.{Wrote};
 ghost use Rattle.refusals.specs.Told.{told};
-ghost use Rattle.refusals.specs.Verdict.{accepted, refuse, andThen};
+ghost use Rattle.refusals.specs.Verdict.{accepted, refuse};
 ghost use Rattle.lines.specs.Clue.{gap, minSpace};
 ghost use Rattle.puzzles.specs.Puzzle as P;
-ghost use Rattle.puzzles.specs.Checks.{puzzle, Sectioned, spaceChecks};
+ghost use Rattle.puzzles.specs.Checks.{puzzle, Sectioned, spaces};
 ghost use Rattle.puzzles.specs.Table.{positionsAt, lineWords, Laid, Standing};
 
 // The cells of line l.
@@ -54,4 +54,26 @@ fn lay_line(
         return Answer::Refused(Refusal::LineTooShort(l));
     };
     Answer::Accepted(n * wide(table[to]))
+}
+
+// Lays the lines, columns and then rows, and answers the place where the cells begin; 6 at the first whose clue needs more than its length.
+pub fn lay_lines(words: &[u32], width: usize, height: usize, table: &mut [u32]) -> Answer
+    requires { ⌜ Sectioned (now words) ⌝ }
+    requires { ⌜ (width ≡ P.width (puzzle (now words))) × (height ≡ P.height (puzzle (now words))) × (8704 ≤ length (now table)) ⌝ }
+    ensures { λ r. ⌜ told r ≡ spaces (puzzle (now (words .entry))) (accepted (P.cellsAt (puzzle (now (words .entry))))) ⌝ }
+    ensures { λ r. ⌜ ((n : ℕ) → told r ≡ accepted n → Laid (puzzle (now (words .entry))) (now (table .exit))) ⌝ }
+{
+    let mut at = 1;
+    let mut first = 1;
+    for l in 0..width + height {
+        let cells = line_length(l, width, height);
+        let laid = lay_line(words, l, cells, at, first, table);
+        let Answer::Accepted(variables) = laid else {
+            return laid;
+        };
+        first += variables;
+        let n = wide(words[at]);
+        at = next_begin(at + 1 + 2 * n, l, width);
+    }
+    Answer::Accepted(at)
 }

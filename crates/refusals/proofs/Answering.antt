@@ -46,6 +46,25 @@ refusal-is (ProgramInput p) = refl
 pub handed-up : {a : Answer} {why : Refusal} → a ≡ Refused why → (v : Verdict) → told a ≡ andThen (told a) v
 handed-up {a} {why} e v = rw (e, refusal-is why)
 
+-- which way a single test went
+pub told-refused : (b : Bool) (k p n : ℕ) {a : Answer} {why : Refusal} → a ≡ Refused why → told a ≡ refuse b k p (accepted n) → (b ≡ true) × (told a ≡ refused k p)
+told-refused true k p n r e = (refl, e)
+told-refused false k p n {a} {why} r e =
+    let u : refused (number (refusal why)) (place (refusal why)) ≡ accepted n = sym (refusal-is why) ∙ ap told (sym r) ∙ e in
+    let z : _≡_ {A = ℕ} 0 1 = cc in
+    absurd (omega arith)
+
+pub told-accepted : (b : Bool) (k p n : ℕ) {a : Answer} {m : ℕ} → a ≡ Accepted m → told a ≡ refuse b k p (accepted n) → (b ≡ false) × (m ≡ n)
+told-accepted true k p n r e = let u : accepted _ ≡ refused k p = ap told (sym r) ∙ e in let z : _≡_ {A = ℕ} 0 1 = cc in absurd (omega arith)
+told-accepted false k p n {a} {m} r e = let u : accepted m ≡ accepted n = ap told (sym r) ∙ e in (refl, cc)
+
+-- a refusal is no acceptance
+pub refused-not : {a : Answer} {why : Refusal} → a ≡ Refused why → (n : ℕ) → told a ≡ accepted n → ⊥
+refused-not {a} {why} r n e =
+    let u : refused (number (refusal why)) (place (refusal why)) ≡ accepted n = sym (refusal-is why) ∙ ap told (sym r) ∙ e in
+    let z : _≡_ {A = ℕ} 0 1 = cc in
+    omega arith
+
 -- what an acceptance says of the checks before it
 pub refuse-accepted : (b : Bool) (k p : ℕ) {n : ℕ} (v : Verdict) → accepted n ≡ refuse b k p v → (b ≡ false) × (accepted n ≡ v)
 refuse-accepted true k p v e = let z : _≡_ {A = ℕ} 0 1 = cc in absurd (omega arith)
