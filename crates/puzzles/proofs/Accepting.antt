@@ -7,7 +7,7 @@ use native.Mathlib.Omega.{arith}
 use lib.Dec.{eqb, ltb}
 use lib.ListN.{length, getD}
 use borrow.Author.Tests.{eqb-false, eqb-true, eq-eqb, ne-eqb, le-ltb, ltb-false}
-use Rattle.lists.proofs.Tests.{neither}
+use Rattle.lists.proofs.Tests.{neither, both, not-false}
 use Rattle.refusals.specs.Verdict.{accepted, andThen}
 use Rattle.refusals.proofs.Answering.{refuse-accepted, first-accepted, then-accepted}
 use Rattle.refusals.proofs.Offending.{none-off, off-none}
@@ -25,10 +25,6 @@ use Rattle.puzzles.proofs.Readers.{Each, FineBlock, FineClue, FineLines
 use Rattle.puzzles.proofs.Lines.{clue-column, clue-row, each-line, spaces-fit}
 
 -- ---- colours that are known
-
-both : (a b : Bool) → (a && b) ≡ true → (a ≡ true) × (b ≡ true)
-both true b e = (refl, e)
-both false b e = absurd (false≢true e)
 
 pub known-each : (K : ℕ) (bs : List Block) → known K bs ≡ true → (b : ℕ) → b < length bs → bit K (blockAt bs b .color) ≡ true
 unfolding known
@@ -48,10 +44,6 @@ size-some n e = omega (arith, eqb-false n 0 (neither (eqb n 0) (ltb 64 n) e .0))
 
 size-fine : (n : ℕ) → 0 < n → n ≤ 64 → offSize n ≡ false
 size-fine n h m = rw (ne-eqb n 0 (λ e. omega arith), le-ltb 64 n m)
-
-not-false : (b : Bool) → not b ≡ false → b ≡ true
-not-false true e = refl
-not-false false e = absurd (true≢false e)
 
 -- a line whose clue was read
 pub record FineLine (n : ℕ) (bs : List Block) : Type 0 where

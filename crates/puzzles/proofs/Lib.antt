@@ -6,3 +6,5 @@ pub mod Sections
 pub mod Places
 pub mod Beginning
 pub mod Laying
+pub mod Finding
+pub mod Coloring

@@ -8,7 +8,7 @@ ghost use mathlib.Core.Path.{_≡_};
 ghost use mathlib.Core.Bool.{cond};
 ghost use Prim.Native.Nat.{ℕ, _+_, _*_, _^_, _≤_, _<_};
 ghost use lib.Dec.{eqb, ltb};
-ghost use lib.ListN.{length};
+ghost use lib.ListN.{length, getD};
 ghost use Rattle.lists.specs.Wrote.{Wrote};
 ghost use Rattle.refusals.specs.Told.{told};
 ghost use Rattle.refusals.specs.Verdict.{accepted, refuse};
@@ -76,4 +76,12 @@ pub fn lay_lines(words: &[u32], width: usize, height: usize, table: &mut [u32]) 
         at = next_begin(at + 1 + 2 * n, l, width);
     }
     Answer::Accepted(at)
+}
+
+// Where the clue that begins at `from` ends.
+pub fn clue_end(words: &[u32], from: usize) -> usize
+    requires { ⌜ from + 1 + 2 * getD (now words) from 0 ≤ length (now words) ⌝ }
+    ensures { λ r. ⌜ r ≡ from + 1 + 2 * getD (now (words .entry)) from 0 ⌝ }
+{
+    from + 1 + 2 * wide(words[from])
 }
