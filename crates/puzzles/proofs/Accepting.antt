@@ -169,3 +169,6 @@ accepted-is ws e =
     let W = walked-is ws (s .1) in
     let g = good-of (puzzle ws) (W .fine) (then-accepted (sectionsOf (readPuzzle ws)) (meaningChecks (puzzle ws)) e) in
     record { words-are = W .words-are; good = g .0; colors-are = g .1 }
+
+pub sizes : (ws : List ℕ) {n : ℕ} → accepted n ≡ sectionsOf (readPuzzle ws) → (width (puzzle ws) ≤ 64) × (height (puzzle ws) ≤ 64)
+sizes ws e = let F = walked-is ws e .fine in (size-within (width (puzzle ws)) (F .columns .0), size-within (height (puzzle ws)) (F .rows .0))

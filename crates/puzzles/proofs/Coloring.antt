@@ -16,7 +16,7 @@ use Rattle.lines.specs.Clue.{Block, words, blocks}
 use Rattle.lines.proofs.ClueWords.{blocks-next, blocks-done, blocks-words}
 use Rattle.puzzles.specs.Puzzle.{Puzzle, width, height, clueAt}
 use Rattle.puzzles.specs.Colors.{withColors, withLines, colorSet, known, solved, offSolved}
-use Rattle.puzzles.proofs.Lines.{clue-row}
+use Rattle.puzzles.proofs.Lines.{clue-column, clue-row}
 
 -- ---- the blocks of a clue
 
@@ -100,3 +100,6 @@ module _ (K mask : ℕ) (small : mask < 2 ^ 32) where
   pub solved-off : ones mask ≡ 1 → eqb (bitAnd mask (bitOr K 1)) 0 ≡ offSolved K mask
   unfolding offSolved solved
   solved-off e = rw (powers-count mask small, eq-eqb (ones mask) 1 e)
+
+pub known-found : (K : ℕ) (z : Puzzle) (l : ℕ) → l < width z → {clue : List ℕ} → clue ≡ words (clueAt z l) → known K (blocks clue) ≡ known K (getD (z .columns) l [])
+known-found K z l h e = rw (e, blocks-words (clueAt z l), clue-column z l h)
