@@ -1,0 +1,1 @@
+// Grids of colour bytes: reading one into puzzle words, transposing.
