@@ -1,1 +1,6 @@
 // Grids of colour bytes: reading one into puzzle words, transposing.
+mod clues;
+mod masks;
+pub mod read;
+mod size;
+pub mod transpose;

@@ -55,6 +55,10 @@ pub then-accepted : (v w : Verdict) {n : ℕ} → accepted n ≡ andThen v w →
 then-accepted (accepted m) w e = e
 then-accepted (refused k p) w e = let z : _≡_ {A = ℕ} 0 1 = cc in absurd (omega arith)
 
+pub then-passed : (v w : Verdict) {n : ℕ} → accepted n ≡ andThen v w → accepted (place v) ≡ v
+then-passed (accepted m) w e = refl
+then-passed (refused k p) w e = let z : _≡_ {A = ℕ} 0 1 = cc in absurd (omega arith)
+
 module _ {A : Type 0} (ws out : List A) {checks : Verdict} where
   pub answers-refused : {a : Answer} {why : Refusal} → a ≡ Refused why → told a ≡ checks → Answers checks ws out a out
   answers-refused {a} {why} r e =
@@ -71,6 +75,10 @@ module _ {A : Type 0} (ws out : List A) {checks : Verdict} where
     answers-wrote h w =
         let used-is = w .next-is ∙ zero-add (length ws) in
         record { answer-is = rw (← e, le-ltb _ _ h, used-is); out-is = rw (← e, le-ltb _ _ h) (wrote-over w) }
+
+    -- the checks came before
+    pub answers-checked : {m : ℕ} {a : Answer} {out′ : List A} → Answers (accepted m) ws out a out′ → Answers checks ws out a out′
+    answers-checked x = record { answer-is = rw (← e) (x .answer-is); out-is = rw (← e) (x .out-is) }
 
   pub outcome-of : {answer : Answer} {out′ : List A} → Answers checks ws out answer out′ → {n p : ℕ} → n ≡ number (told answer) → p ≡ place (told answer)
       → Outcome checks ws out n p out′
