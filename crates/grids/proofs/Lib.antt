@@ -1,2 +1,3 @@
 pub mod Cells
 pub mod Checking
+pub mod ClueSections

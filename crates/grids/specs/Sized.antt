@@ -1,4 +1,4 @@
--- What holds of a grid whose size is accepted.
+-- What holds of a grid whose size is accepted, and of its lines.
 use mathlib.Core.Path.{_≡_}
 use mathlib.Core.List.{List}
 use Prim.Native.Nat.{ℕ, _*_, _≤_, _<_}
@@ -12,7 +12,13 @@ pub record Sized (w h : ℕ) (grid : List ℕ) : Type 0 where
   pub height-most : h ≤ 64
   pub cells : length grid ≡ w * h
 
--- with its columns one after another, at the front of a buffer
+-- n lines of len cells, one after another at the front of a buffer
+pub record Lined (n len : ℕ) (cells : List ℕ) : Type 0 where
+  pub few : n ≤ 64
+  pub short : len ≤ 64
+  pub room : n * len ≤ length cells
+
+-- a grid with its columns at the front of a buffer
 pub record Turned (w h : ℕ) (grid columns : List ℕ) : Type 0 where
   pub sized : Sized w h grid
   pub room : w * h ≤ length columns

@@ -2,16 +2,17 @@
 use lines::line::count_words;
 use lines::line::from_line;
 ghost use mathlib.Core.Path.{_≡_};
-ghost use Prim.Native.Nat.{_+_, _*_, _≤_};
+ghost use Prim.Native.Nat.{_+_, _≤_};
 ghost use lib.ListN.{length};
 ghost use Rattle.lists.specs.Wrote.{Wrote};
 ghost use Rattle.lines.specs.Line.{runs};
 ghost use Rattle.puzzles.specs.Puzzle.{clueWords, linesWords};
 ghost use Rattle.grids.specs.Grid.{rowClues};
+ghost use Rattle.grids.specs.Sized.{Lined};
 
 // How many words a section of n lines takes: its count, and a count and the runs for each line.
 pub fn count_clues(n: usize, len: usize, cells: &[u8]) -> usize
-    requires { ⌜ (n ≤ 64) × (len ≤ 64) × (n * len ≤ length (now cells)) ⌝ }
+    requires { ⌜ Lined n len (now cells) ⌝ }
     ensures { λ r. ⌜ r ≡ length (linesWords (rowClues len n (now (cells .entry)))) ⌝ }
 {
     let mut count = 1;
@@ -34,7 +35,7 @@ fn put_clue(line: &[u8], out: &mut [u32], at: usize) -> usize
 
 // Writes a section of n lines.
 pub fn put_clues(n: usize, len: usize, cells: &[u8], out: &mut [u32], from: usize) -> usize
-    requires { ⌜ (n ≤ 64) × (len ≤ 64) × (n * len ≤ length (now cells)) ⌝ }
+    requires { ⌜ Lined n len (now cells) ⌝ }
     requires { ⌜ from + length (linesWords (rowClues len n (now cells))) ≤ length (now out) ⌝ }
     ensures { λ r. ⌜ Wrote (linesWords (rowClues len n (now (cells .entry)))) (now (out .entry)) from (now (out .exit)) r ⌝ }
 {

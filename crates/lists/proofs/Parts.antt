@@ -3,9 +3,9 @@ use mathlib.Core.Path.{_≡_, refl, sym, ap, _∙_}
 use mathlib.Core.List.{List}
 use Prim.Native.Nat.{ℕ, zero, suc, _+_, _*_, _≤_, _<_}
 use native.Mathlib.Omega.{arith}
-use native.Mathlib.Nat.{suc-mul, mul-le-mul-right}
+use native.Mathlib.Nat.{zero-mul, suc-mul, mul-le-mul-right}
 use native.Mathlib.Decide.{ℕ-discrete}
-use lib.ListN.{length, take, drop, getD, length-drop, List·getD-append}
+use lib.ListN.{length, take, drop, getD, length-append, length-drop, List·getD-append}
 use lib.Seq.{length-take-le, getD-append-add, getD-take, getD-drop, ext-getD}
 use Rattle.lists.specs.Each.{each, tab}
 use Rattle.lists.proofs.Eaches.{each-length, length-tab, getD-tab}
@@ -19,6 +19,12 @@ pub place-within : (n m i j : ℕ) → i < n → j < m → i * m + j < n * m
 place-within n m i j h l = omega (arith, part-within n m i h)
 
 module _ {A : Type 0} where
+  -- no part is longer than m
+  pub each-most : (n m : ℕ) (f : ℕ → List A) → ((k : ℕ) → length (f k) ≤ m) → length (each n f) ≤ n * m
+  unfolding each
+  each-most zero m f h = omega (arith, zero-mul m)
+  each-most (suc n) m f h = omega (arith, length-append (each n f) (f n), h n, each-most n m f h, suc-mul n m)
+
   -- element j of part i
   pub getD-each : (n m : ℕ) (f : ℕ → List A) → ((k : ℕ) → length (f k) ≡ m) → (d : A) (i j : ℕ) → i < n → j < m → getD (each n f) (i * m + j) d ≡ getD (f i) j d
   unfolding each
