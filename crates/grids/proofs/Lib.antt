@@ -1,3 +1,5 @@
 pub mod Cells
+pub mod CellMasks
 pub mod Checking
 pub mod ClueSections
+pub mod GridWords
