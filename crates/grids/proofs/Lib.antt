@@ -2,4 +2,5 @@ pub mod Cells
 pub mod CellMasks
 pub mod Checking
 pub mod ClueSections
+pub mod GridColors
 pub mod GridWords
