@@ -1,3 +1,4 @@
+pub mod Accepted
 pub mod Cells
 pub mod CellMasks
 pub mod Checking
