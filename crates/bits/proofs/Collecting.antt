@@ -1,5 +1,5 @@
 -- A mask that collects bits, element by element: no bit is lost, and those that come are the elements'.
-use mathlib.Core.Path.{_≡_, refl}
+use mathlib.Core.Path.{_≡_}
 use mathlib.Core.Bool.{true}
 use mathlib.Core.List.{List, [], _∷_, foldl}
 use mathlib.Core.Logic.{_⊎_, inl, inr, ⊎-elim}

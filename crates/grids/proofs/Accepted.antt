@@ -1,12 +1,11 @@
 -- The puzzle of an accepted grid is good: its words are accepted as those of a puzzle.
 use mathlib.Core.Path.{_≡_, refl, sym, ap, ap₂, subst, _∙_}
-use mathlib.Core.Bool.{true, false, cond, and-false}
+use mathlib.Core.Bool.{true, false, and-false}
 use mathlib.Core.List.{List, [], _++_}
 use Prim.Native.Nat.{ℕ, _+_, _-_, _*_, _≤_, _<_}
 use native.Mathlib.Omega.{arith}
 use native.Mathlib.Decide.{decLt}
-use lib.Bits.{bitOr, and-self}
-use lib.Dec.{ltb}
+use lib.Bits.{and-self}
 use lib.ListN.{length, getD, List·getD-append}
 use lib.Seq.{getD-append-add}
 use borrow.Author.Tests.{lt-ltb, le-ltb, ne-eqb}
@@ -14,14 +13,13 @@ use Rattle.lists.proofs.Eaches.{length-tab, getD-tab}
 use Rattle.refusals.specs.Verdict.{accepted}
 use Rattle.bits.specs.Bits.{bit, withBit}
 use Rattle.bits.proofs.SetBits.{bit-some, with-same, with-zero}
-use Rattle.lines.specs.Clue.{Block, gap, minSpace}
 use Rattle.lines.specs.Line.{runs}
 use Rattle.lines.specs.Arrangement.{Proper, blockAt}
 use Rattle.lines.proofs.Checks.{bytes-ok}
 use Rattle.lines.proofs.Reading.{runs-proper}
-use Rattle.lines.proofs.Coloring.{Named, Seen, named-seen, runs-few, runs-fit}
+use Rattle.lines.proofs.Coloring.{Seen, named-seen, runs-few, runs-fit}
 use Rattle.puzzles.specs.Puzzle.{width, height, lines, clueAt, lengthAt}
-use Rattle.puzzles.specs.Colors.{colorSet, solved, offSolved}
+use Rattle.puzzles.specs.Colors.{solved, offSolved}
 use Rattle.puzzles.specs.Checks.{colors}
 use Rattle.puzzles.specs.Good.{Good}
 use Rattle.grids.specs.Grid.{row, column, rowClues, columnClues, gridPuzzle, gridChecks}

@@ -1,13 +1,13 @@
 -- The cells of a grid, by row and by column.
-use mathlib.Core.Path.{_≡_, refl, sym, ap, _∙_}
+use mathlib.Core.Path.{_≡_, sym, ap, _∙_}
 use mathlib.Core.List.{List, [], _∷_}
-use Prim.Native.Nat.{ℕ, zero, suc, _+_, _*_, _/_, _%_, _≤_, _<_}
+use Prim.Native.Nat.{ℕ, _+_, _*_, _/_, _%_, _≤_, _<_}
 use native.Mathlib.Omega.{arith}
 use native.Mathlib.Nat.{mul-comm, mul-zero, mul-le-mul, div-add-mod', mod-lt, div-lt-iff-lt-mul}
 use native.Mathlib.Decide.{decLt}
 use lib.ListN.{length, getD}
 use lib.Seq.{ext-getD}
-use Rattle.lists.specs.Each.{each, tab}
+use Rattle.lists.specs.Each.{tab}
 use Rattle.lists.specs.Wrote.{Wrote}
 use Rattle.lists.proofs.Eaches.{each-length, length-tab, getD-tab}
 use Rattle.lists.proofs.Parts.{place-within, getD-each}

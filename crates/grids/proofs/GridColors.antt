@@ -1,9 +1,9 @@
 -- The colours of a grid: those of its cells are those of its rows' blocks, so that one walk over the cells finds the mask.
 use mathlib.Core.Path.{_≡_, refl, sym, ap, subst, _∙_}
-use mathlib.Core.Bool.{true, false}
+use mathlib.Core.Bool.{true}
 use mathlib.Core.List.{List, [], _∷_, foldl}
 use mathlib.Core.Logic.{⊎-elim}
-use Prim.Native.Nat.{ℕ, zero, suc, _+_, _*_, _/_, _%_, _^_, _≤_, _<_}
+use Prim.Native.Nat.{ℕ, _+_, _*_, _/_, _%_, _<_}
 use native.Mathlib.Omega.{arith}
 use native.Mathlib.Nat.{mul-comm, div-add-mod', mod-lt, div-lt-iff-lt-mul}
 use native.Mathlib.Decide.{ℕ-discrete, decLt}
@@ -16,7 +16,6 @@ use Rattle.bits.proofs.LowestFirst.{same-bits}
 use Rattle.bits.proofs.Collecting.{Collects, Some, collects-bit, collects-all}
 use Rattle.lines.specs.Clue.{Block}
 use Rattle.lines.specs.Line.{runs}
-use Rattle.lines.specs.Arrangement.{Proper}
 use Rattle.lines.proofs.Reading.{runs-proper}
 use Rattle.lines.proofs.Coloring.{Named, Seen, named-seen, seen-named}
 use Rattle.puzzles.specs.Colors.{withColors, withLines, colorSet}
@@ -84,8 +83,7 @@ module _ {w h : ℕ} {grid : List ℕ} (S : Sized w h grid) {c : ℕ} where
   seen-row C =
       let t = C .cell in
       let y = t / w in
-      let i : t % w < w = mod-lt t (S .width-some) in
-      (
+      let i : t % w < w = mod-lt t (S .width-some) in (
         y,
         div-lt-iff-lt-mul (S .width-some) .1 (omega (arith, C .within, S .cells, mul-comm w h)),
         record {
@@ -115,8 +113,7 @@ module _ {w h : ℕ} {grid : List ℕ} (S : Sized w h grid) (c : ℕ) where
       let y = s .at in
       let j : y < h = omega (arith, s .below, rows-length w h grid) in
       let b : ofBlocks (runs (row w grid y)) c = subst (λ bs. ofBlocks bs c) (rows-at w h grid y j) (s .holds) in
-      let N : Named (runs (row w grid y)) c = record { block-no = b .at; within = b .below; color-is = b .holds } in
-      (
+      let N : Named (runs (row w grid y)) c = record { block-no = b .at; within = b .below; color-is = b .holds } in (
         omega (arith, runs-proper (row w grid y) .colors (b .at) (b .below), b .holds),
         row-seen S j (named-seen (row w grid y) N),
       ))

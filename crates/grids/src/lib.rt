@@ -1,5 +1,6 @@
 // Grids of colour bytes: reading one into puzzle words, transposing.
 mod clues;
+mod columns;
 mod masks;
 pub mod read;
 mod size;

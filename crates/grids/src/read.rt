@@ -1,22 +1,22 @@
 // Reading a grid into puzzle words.
 use crate::clues::count_clues;
 use crate::clues::put_clues;
+use crate::columns::put_columns;
 use crate::masks::cells_mask;
 use crate::masks::put_masks;
 use crate::size::check_size;
-use crate::transpose::put_columns;
 use lines::line::check_bytes;
 use refusals::Answer;
 use refusals::Refusal;
 ghost use mathlib.Core.Path.{_≡_};
-ghost use Prim.Native.Nat.{_*_, _≤_};
-ghost use lib.ListN.{length, take};
+ghost use Prim.Native.Nat.{_≤_};
+ghost use lib.ListN.{length};
 ghost use Rattle.lists.specs.Wrote.{Wrote};
 ghost use Rattle.refusals.specs.Told.{told};
 ghost use Rattle.refusals.specs.Outcome.{Answers};
 ghost use Rattle.refusals.specs.Verdict.{accepted};
-ghost use Rattle.grids.specs.Grid.{transposed, gridChecks, gridWords};
-ghost use Rattle.grids.specs.Sized.{Sized, Turned};
+ghost use Rattle.grids.specs.Grid.{gridChecks, gridWords};
+ghost use Rattle.grids.specs.Sized.{Turned};
 
 // The size, then the bytes.
 fn check_grid(width: usize, height: usize, grid: &[u8]) -> Answer

@@ -1,12 +1,12 @@
 -- The blocks that reading a line finds: their words, how many, the space that they need, and their colours, which are those of the cells.
 use mathlib.Core.Path.{_≡_, refl, sym, ap, _∙_}
-use mathlib.Core.List.{List, [], _∷_, map}
-use Prim.Native.Nat.{ℕ, zero, suc, _+_, _-_, _*_, _≤_, _<_}
+use mathlib.Core.List.{List, [], _∷_}
+use Prim.Native.Nat.{ℕ, zero, suc, _-_, _*_, _≤_, _<_}
 use native.Mathlib.Omega.{arith}
 use native.Mathlib.Nat.{le-refl}
 use native.Mathlib.Decide.{decLt}
 use lib.ListN.{length, getD, length-map}
-use Rattle.lines.specs.Clue.{Block, Run, end, gap, words, minSpace}
+use Rattle.lines.specs.Clue.{Block, Run, gap, words, minSpace}
 use Rattle.lines.specs.Line.{runs}
 use Rattle.lines.specs.Calls.{lineWords}
 use Rattle.lines.specs.Arrangement.{blockAt, at}

@@ -1,4 +1,3 @@
-
 use native.Mathlib.Omega.{arith}
 use lib.ListN.{length-set}
 use Rattle.lines.proofs.Coloring.{line-words-length, runs-few}

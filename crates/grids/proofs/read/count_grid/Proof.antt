@@ -1,7 +1,5 @@
-use mathlib.Core.Path.{sym, _∙_}
 use native.Mathlib.Omega.{arith}
 use Rattle.grids.proofs.GridWords.{rows-lined, columns-lined, grid-words-length, grid-words-most}
-use borrow.Author.Needs.{needs}
 use Rattle.grids.proofs.read.count_grid.Statement.{statement}
 use Rattle.grids.proofs.read.count_grid.Tie as tie
 

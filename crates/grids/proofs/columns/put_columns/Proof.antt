@@ -3,8 +3,8 @@ use Rattle.lists.proofs.Emitting.{Emitting, emit-kept, emit-next}
 use Rattle.grids.specs.Grid.{column}
 use Rattle.grids.proofs.Cells.{columns-first, columns-room, columns-done}
 use borrow.Author.Needs.{needs}
-use Rattle.grids.proofs.transpose.put_columns.Statement.{statement}
-use Rattle.grids.proofs.transpose.put_columns.Tie as tie
+use Rattle.grids.proofs.columns.put_columns.Statement.{statement}
+use Rattle.grids.proofs.columns.put_columns.Tie as tie
 
 abbrev Inv-loop : tie.InvT-loop
 Inv-loop width height grid out₀ at₀ x₀ out at x = Emitting width (column width height grid) out₀ 0 out at x

@@ -6,8 +6,8 @@ use Rattle.lists.proofs.Writing.{wrote-store}
 use Rattle.lists.proofs.Emitting.{Emitting, emit-kept, emit-room, emit-next}
 use Rattle.grids.proofs.Cells.{place-in, place-most, column-first, column-done}
 use borrow.Author.Needs.{needs}
-use Rattle.grids.proofs.transpose.put_column.Statement.{statement}
-use Rattle.grids.proofs.transpose.put_column.Tie as tie
+use Rattle.grids.proofs.columns.put_column.Statement.{statement}
+use Rattle.grids.proofs.columns.put_column.Tie as tie
 
 abbrev Inv-loop : tie.InvT-loop
 Inv-loop width height grid x out₀ at to₀ y₀ out to y = Emitting height (λ y. getD grid (y * width + x) 0 ∷ []) out₀ at out to y
