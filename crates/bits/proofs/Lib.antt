@@ -1,2 +1,3 @@
 pub mod SetBits
 pub mod LowestFirst
+pub mod Collecting

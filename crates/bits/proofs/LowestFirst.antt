@@ -1,5 +1,6 @@
--- The powers of a mask, lowest first, by halving: the mask minus one takes the lowest off, the set bits count them, and joined they are the mask.
+-- The powers of a mask, lowest first, by halving: the mask minus one takes the lowest off, the set bits count them, and joined they are the mask, which its bits thus determine.
 use mathlib.Core.Path.{_≡_, refl, sym, ap, ap₂, _∙_}
+use mathlib.Core.Bool.{true}
 use mathlib.Core.List.{List, [], _∷_, _++_, foldl}
 use mathlib.Core.Logic.{_⊎_, inl, inr, ⊎-elim}
 use Prim.Native.Nat.{ℕ, zero, suc, _+_, _-_, _*_, _/_, _%_, _^_, _<_}
@@ -12,6 +13,7 @@ use lib.Count.{ones, ones-step, ones-le}
 use lib.ListN.{length}
 use Rattle.lists.specs.Each.{each, when}
 use Rattle.lists.proofs.Eaches.{each-plus, each-same}
+use Rattle.lists.proofs.Tests.{same-tests}
 use Rattle.lists.proofs.Writing.{Filling, fill-as}
 use Rattle.bits.specs.Bits.{bit, powers, joined}
 use Rattle.bits.proofs.SetBits.{bit-low, bit-half}
@@ -136,3 +138,10 @@ module _ (x : ℕ) (h : x < 2 ^ 32) where
   pub joined-powers : joined (powers x) ≡ x
   unfolding joined
   joined-powers = rw (powers-raised x) (raised-joined 32 0 x 0 h (omega arith) ∙ omega (arith, mul-one x))
+
+-- masks with the same bits are equal
+pub same-bits : (x y : ℕ) → x < 2 ^ 32 → y < 2 ^ 32 → ((k : ℕ) → k < 32 → bit x k ≡ true → bit y k ≡ true) → ((k : ℕ) → k < 32 → bit y k ≡ true → bit x k ≡ true) → x ≡ y
+unfolding powers
+same-bits x y h l f g =
+    let same = each-same 32 (λ k. when (bit x k) (2 ^ k ∷ [])) (λ k. when (bit y k) (2 ^ k ∷ [])) (λ k i. rw (same-tests (bit x k) (bit y k) (f k i) (g k i))) in
+    sym (joined-powers x h) ∙ ap joined same ∙ joined-powers y l

@@ -1,15 +1,17 @@
 -- Which bits are set: by halving, beyond a number's width, after an or, in joined words, in a power of two, with one bit more.
 use mathlib.Core.Path.{_≡_, refl, sym, _∙_}
-use mathlib.Core.Bool.{Bool, true, false, cond, _||_, or-false, or-true}
+use mathlib.Core.Bool.{Bool, true, false, cond, _||_, or-false, or-true, false≢true}
 use mathlib.Core.List.{List, [], _∷_, foldl}
+use mathlib.Core.Logic.{_⊎_, inl, inr}
 use Prim.Native.Nat.{ℕ, zero, suc, _/_, _%_, _^_, _<_, max}
 use native.Mathlib.Omega.{arith}
 use native.Mathlib.Numerals.{one-add}
 use native.Mathlib.Nat.{div-eq-of-lt, div-one, zero-max, pow-suc}
-use lib.Bits.{bitOr, or-step, or-shr}
+use native.Mathlib.Decide.{ℕ-discrete, decLt}
+use lib.Bits.{bitOr, or-step, or-shr, or-lt}
 use lib.Dec.{eqb, ltb, eqb·zero-suc, eqb·suc-zero, eqb·suc-suc}
-use lib.Pow.{pow-pos, shr-shr}
-use borrow.Author.Tests.{lt-ltb, eq-eqb, ne-eqb}
+use lib.Pow.{pow-pos, pow-lt, shr-shr}
+use borrow.Author.Tests.{lt-ltb, le-ltb, eq-eqb, ne-eqb}
 use Rattle.bits.specs.Bits.{bit, joined, withBit}
 
 pub bit-low : (x : ℕ) → bit x 0 ≡ eqb (x % 2) 1
@@ -75,3 +77,33 @@ with-other mask k j n = picked (ltb k 32)
     picked : (b : Bool) → bit (cond b (bitOr mask (2 ^ k)) mask) j ≡ bit mask j
     picked true = rw (bit-or mask (2 ^ k) j, bit-power k j, ne-eqb j k n, or-false)
     picked false = refl
+
+pub with-zero : (mask : ℕ) → withBit mask 0 ≡ bitOr mask 1
+unfolding withBit
+with-zero mask = refl
+
+module _ (mask k j : ℕ) where
+  -- no bit is lost
+  pub with-keeps : bit mask j ≡ true → bit (withBit mask k) j ≡ true
+  unfolding withBit
+  with-keeps e = picked (ltb k 32)
+    where
+      picked : (b : Bool) → bit (cond b (bitOr mask (2 ^ k)) mask) j ≡ true
+      picked true = rw (bit-or mask (2 ^ k) j, e)
+      picked false = e
+
+  -- and only bit k comes
+  pub with-cases : bit (withBit mask k) j ≡ true → (bit mask j ≡ true) ⊎ (k ≡ j)
+  with-cases e = elim (ℕ-discrete j k) [ yes q ↦ inr (sym q) | no n ↦ inl (sym (with-other mask k j n) ∙ e) ]
+
+pub with-within : (mask k : ℕ) → mask < 2 ^ 32 → withBit mask k < 2 ^ 32
+unfolding withBit
+with-within mask k h = elim (decLt k 32) [
+  | yes l ↦ rw (lt-ltb k 32 l) (or-lt 32 mask (2 ^ k) h (pow-lt l))
+  | no l ↦ rw (le-ltb k 32 (omega arith)) h
+]
+
+-- a mask with a bit is not 0
+pub bit-some : (mask k : ℕ) → bit mask k ≡ true → 0 < mask
+bit-some zero k e = absurd (false≢true (sym (bit-beyond 0 k (pow-pos k)) ∙ e))
+bit-some (suc mask) k e = omega arith

@@ -1,1 +1,3 @@
 pub mod Grid
+pub mod Sized
+pub mod Mask

@@ -15,6 +15,7 @@ use Rattle.refusals.specs.declared.Refusal.{Refusal}
 use Rattle.refusals.specs.declared.Answer.{Answer}
 use Rattle.refusals.specs.declared.Answer.the-variants.{Refused}
 use Rattle.refusals.proofs.Answering.{handed-up, refuse-accepted, then-accepted}
+use Rattle.refusals.proofs.Offending.{none-off}
 use Rattle.lines.specs.Clue.{Block, words, blocks, gap, minSpace}
 use Rattle.lines.specs.Arrangement.{Proper, blockAt}
 use Rattle.lines.specs.Calls.{offSize, blockChecks, clueChecks, byteChecks, lineChecks}
@@ -101,3 +102,7 @@ module _ (line : List ℕ) where
   pub length-passed : offSize (length line) ≡ false → byteChecks line ≡ lineChecks line
   unfolding lineChecks
   length-passed s = rw s
+
+-- every byte of an accepted line is a colour or blank
+pub bytes-ok : (line : List ℕ) {n : ℕ} → accepted n ≡ byteChecks line → (i : ℕ) → i < length line → getD line i 0 ≤ 31
+bytes-ok line e i h = ltb-false 31 (getD line i 0) (none-off 0 (ltb 31) 18 0 line e i h)

@@ -26,7 +26,7 @@ pub fn check_bytes(line: &[u8]) -> Answer
 }
 
 // How many words the runs of a line take: two for each cell that begins one.
-fn count_words(line: &[u8]) -> usize
+pub fn count_words(line: &[u8]) -> usize
     requires { ⌜ length (now line) ≤ 64 ⌝ }
     ensures { λ r. ⌜ r ≡ length (lineWords (now (line .entry))) ⌝ }
 {
@@ -57,7 +57,7 @@ fn put_run(size: u32, color: u8, out: &mut [u32], at: usize) -> usize
 }
 
 // Writes the runs of a line.
-fn from_line(line: &[u8], out: &mut [u32]) -> usize
+pub fn from_line(line: &[u8], out: &mut [u32]) -> usize
     requires { ⌜ (length (now line) ≤ 64) × (length (lineWords (now line)) ≤ length (now out)) ⌝ }
     ensures { λ r. ⌜ Wrote (lineWords (now (line .entry))) (now (out .entry)) 0 (now (out .exit)) r ⌝ }
 {

@@ -64,3 +64,7 @@ module _ {A : Type 0} where
     | yes e ↦ rw e (getD-at (tab n f) (f n) [] d n (length-tab n f))
     | no e ↦ List·getD-append (tab n f) _ d t (omega (arith, length-tab n f)) ∙ getD-tab n f d t (omega arith)
   ]
+
+  pub tab-same : (n : ℕ) (f g : ℕ → A) → ((k : ℕ) → k < n → f k ≡ g k) → tab n f ≡ tab n g
+  unfolding tab
+  tab-same n f g h = each-same n _ _ (λ k l. rw (h k l))

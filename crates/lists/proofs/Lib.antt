@@ -1,5 +1,6 @@
 pub mod Dropping
 pub mod Eaches
 pub mod Emitting
+pub mod Parts
 pub mod Tests
 pub mod Writing

@@ -1,5 +1,5 @@
--- Tests that are joined or turned.
-use mathlib.Core.Path.{_≡_, refl}
+-- Tests that are joined, turned or equal.
+use mathlib.Core.Path.{_≡_, refl, sym}
 use mathlib.Core.Bool.{Bool, true, false, _||_, _&&_, not, true≢false, false≢true}
 
 pub neither : (a b : Bool) → (a || b) ≡ false → (a ≡ false) × (b ≡ false)
@@ -17,3 +17,9 @@ not-false false e = absurd (true≢false e)
 pub not-true : (b : Bool) → not b ≡ true → b ≡ false
 not-true true e = absurd (false≢true e)
 not-true false e = refl
+
+-- tests that follow from each other
+pub same-tests : (a b : Bool) → (a ≡ true → b ≡ true) → (b ≡ true → a ≡ true) → a ≡ b
+same-tests true b f g = sym (f refl)
+same-tests false true f g = g refl
+same-tests false false f g = refl

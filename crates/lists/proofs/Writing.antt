@@ -3,9 +3,10 @@ use mathlib.Core.Path.{_≡_, refl, sym, ap, _∙_}
 use mathlib.Core.List.{List, [], _∷_, _++_, append-assoc, append-nil}
 use Prim.Native.Nat.{ℕ, _+_, _-_, _≤_, _<_}
 use native.Mathlib.Omega.{arith}
+use native.Mathlib.Numerals.{add-one}
 use native.Mathlib.Nat.{add-zero, zero-add, le-refl}
 use lib.ListN.{length, take, drop, getD, set, take-append-drop, length-append, length-drop, drop-of-length-le}
-use lib.Seq.{take-at, take-add, take-take, take-append-le, drop-at, drop-drop, length-take-le, take-all, getD-take, getD-drop, sets, sets-eq}
+use lib.Seq.{take-suc, take-at, take-add, take-take, take-append-le, set-at, drop-at, drop-drop, length-take-le, take-all, getD-take, getD-drop, sets, sets-eq}
 use borrow.Rule.Slice.PartMut.{putMid}
 use Rattle.lists.specs.Wrote.{Wrote, over}
 
@@ -29,6 +30,20 @@ module _ {A : Type 0} where
 
   pub wrote-store : (out : List A) (at : ℕ) (a : A) → at < length out → Wrote (a ∷ []) out at (set out at a) (at + 1)
   wrote-store out at a h = wrote-sets (a ∷ []) out at (omega arith)
+
+  -- a store, and then what follows it
+  pub wrote-after : (out : List A) (at : ℕ) (a : A) → at < length out → {ws out₁ : List A} {at₁ : ℕ} → Wrote ws (set out at a) (at + 1) out₁ at₁ → Wrote (a ∷ ws) out at out₁ at₁
+  wrote-after out at a h w = wrote-then (omega arith) (wrote-store out at a h) w
+
+  -- a store before what was written
+  pub wrote-ahead : (out : List A) (at : ℕ) (a : A) → at < length out → {ws out₁ : List A} {at₁ : ℕ} → Wrote ws out (at + 1) out₁ at₁ → Wrote (a ∷ ws) out at (set out₁ at a) at₁
+  wrote-ahead out at a h {ws} {out₁} {at₁} w =
+      let more = ws ++ drop at₁ out in
+      let e : out₁ ≡ take at out ++ (getD out at a ∷ more) = w .left ∙ rw (add-one at, take-suc out at a h, append-assoc) in
+      record {
+        next-is = omega (arith, w .next-is);
+        left = rw e (set-at (take at out) (getD out at a) more a at (length-take-le at out (omega arith)));
+      }
 
   -- a writer keeps the buffer's length
   pub wrote-kept : {ws out out₁ : List A} {at at₁ : ℕ} → at + length ws ≤ length out → Wrote ws out at out₁ at₁ → length out₁ ≡ length out

@@ -95,6 +95,10 @@ module _ {A : Type 0} (ws out : List A) {checks : Verdict} where
         let used-is = w .next-is ∙ zero-add (length ws) in
         record { answer-is = rw (← e, le-ltb _ _ h, used-is); out-is = rw (← e, le-ltb _ _ h) (wrote-over w) }
 
+    -- the checks came before
+    pub answers-checked : {m : ℕ} {a : Answer} {out′ : List A} → Answers (accepted m) ws out a out′ → Answers checks ws out a out′
+    answers-checked x = record { answer-is = rw (← e) (x .answer-is); out-is = rw (← e) (x .out-is) }
+
   -- and what its caller knows, where there was room
   module _ {a : Answer} {out′ : List A} (given : Answers checks ws out a out′) (room : length ws ≤ length out) where
     pub called-accepted : {used : ℕ} → a ≡ Accepted used → ((n : ℕ) × (accepted n ≡ checks)) × Wrote ws out 0 out′ used

@@ -1,0 +1,7 @@
+pub mod Accepted
+pub mod Cells
+pub mod CellMasks
+pub mod Checking
+pub mod ClueSections
+pub mod GridColors
+pub mod GridWords

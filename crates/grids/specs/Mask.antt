@@ -1,0 +1,14 @@
+-- The mask of every cell, as it is found in one walk over the cells.
+use mathlib.Core.Bool.{cond}
+use mathlib.Core.List.{List, foldl}
+use Prim.Native.Nat.{ℕ}
+use lib.Dec.{eqb}
+use Rattle.bits.specs.Bits.{withBit}
+
+-- bit 0 and the colours of the cells
+abbrev pub cellColors : List ℕ → ℕ
+cellColors grid = foldl withBit 1 grid
+
+-- and where no cell has a colour, bits 0 and 1
+unfoldable pub cellsMask : List ℕ → ℕ
+cellsMask grid = cond (eqb (cellColors grid) 1) 3 (cellColors grid)

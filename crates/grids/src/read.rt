@@ -1,0 +1,73 @@
+// Reading a grid into puzzle words.
+use crate::clues::count_clues;
+use crate::clues::put_clues;
+use crate::columns::put_columns;
+use crate::masks::cells_mask;
+use crate::masks::put_masks;
+use crate::size::check_size;
+use lines::line::check_bytes;
+use refusals::Answer;
+use refusals::Refusal;
+ghost use mathlib.Core.Path.{_≡_};
+ghost use Prim.Native.Nat.{_≤_};
+ghost use lib.ListN.{length};
+ghost use Rattle.lists.specs.Wrote.{Wrote};
+ghost use Rattle.refusals.specs.Told.{told};
+ghost use Rattle.refusals.specs.Outcome.{Answers};
+ghost use Rattle.refusals.specs.Verdict.{accepted};
+ghost use Rattle.grids.specs.Grid.{gridChecks, gridWords};
+ghost use Rattle.grids.specs.Sized.{Turned};
+
+// The size, then the bytes.
+fn check_grid(width: usize, height: usize, grid: &[u8]) -> Answer
+    ensures { λ r. ⌜ told r ≡ gridChecks width height (now (grid .entry)) ⌝ }
+{
+    let checked = check_size(width, height, grid);
+    let Answer::Accepted(_) = checked else {
+        return checked;
+    };
+    check_bytes(grid)
+}
+
+// How many words the puzzle takes.
+fn count_grid(width: usize, height: usize, grid: &[u8], columns: &[u8]) -> usize
+    requires { ⌜ Turned width height (now grid) (now columns) ⌝ }
+    ensures { λ r. ⌜ r ≡ length (gridWords width height (now (grid .entry))) ⌝ }
+{
+    count_clues(width, height, columns) + count_clues(height, width, grid) + 1 + grid.len()
+}
+
+// Writes the columns, the rows and the cells.
+fn put_grid(width: usize, height: usize, grid: &[u8], columns: &[u8], out: &mut [u32]) -> usize
+    requires { ⌜ Turned width height (now grid) (now columns) × (length (gridWords width height (now grid)) ≤ length (now out)) ⌝ }
+    ensures { λ r. ⌜ Wrote (gridWords width height (now (grid .entry))) (now (out .entry)) 0 (now (out .exit)) r ⌝ }
+{
+    let rows = put_clues(width, height, columns, out, 0);
+    let cells = put_clues(height, width, grid, out, rows);
+    put_masks(cells_mask(grid), grid.len(), out, cells)
+}
+
+// The words, where there is room.
+fn write_grid(width: usize, height: usize, grid: &[u8], columns: &[u8], out: &mut [u32]) -> Answer
+    requires { ⌜ Turned width height (now grid) (now columns) ⌝ }
+    ensures { λ r. ⌜ Answers (accepted 0) (gridWords width height (now (grid .entry))) (now (out .entry)) r (now (out .exit)) ⌝ }
+{
+    let need = count_grid(width, height, grid, columns);
+    if out.len() < need {
+        return Answer::Refused(Refusal::OutputTooShort(need));
+    }
+    Answer::Accepted(put_grid(width, height, grid, columns, out))
+}
+
+// The puzzle that a grid solves, with all masks open.
+pub fn read_grid(width: usize, height: usize, grid: &[u8], out: &mut [u32]) -> Answer
+    ensures { λ r. ⌜ Answers (gridChecks width height (now (grid .entry))) (gridWords width height (now (grid .entry))) (now (out .entry)) r (now (out .exit)) ⌝ }
+{
+    let checked = check_grid(width, height, grid);
+    let Answer::Accepted(_) = checked else {
+        return checked;
+    };
+    let mut columns = [0u8; 4096];
+    put_columns(width, height, grid, &mut columns);
+    write_grid(width, height, grid, &columns, out)
+}
