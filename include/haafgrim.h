@@ -38,6 +38,13 @@ uint32_t haafgrim_starts(size_t length, const uint32_t *clue, size_t clue_len, u
  * Needs 62 words. Refuses: 2, 1, 3, 4, 5, 6, 12. */
 uint32_t haafgrim_color_ranges(size_t length, const uint32_t *clue, size_t clue_len, uint32_t *out, size_t out_len, size_t *place);
 
+/* A grid is colour bytes row by row, 0 for blank. Reads it as the words of the puzzle that it solves: its columns' and rows' clues, and for each cell a mask with
+ * bit 0 and the bits of the colours of the rows (bit 1 where there are none). 20,611 words are always enough. Refuses: 2 (place 0 for the width, 1 for the height), 7, 18, 12. */
+uint32_t haafgrim_read_grid(size_t width, size_t height, const uint8_t *grid, size_t grid_len, uint32_t *out, size_t out_len, size_t *place);
+
+/* The grid's columns as rows: a grid of `height` bytes a row, any bytes. Needs as many bytes as the grid has. Refuses: 2, 7, 12. */
+uint32_t haafgrim_transpose(size_t width, size_t height, const uint8_t *grid, size_t grid_len, uint8_t *out, size_t out_len, size_t *place);
+
 #ifdef __cplusplus
 }
 #endif

@@ -1,4 +1,4 @@
--- The puzzle of an accepted grid is good: its words are accepted as those of a puzzle.
+-- The puzzle of an accepted grid is good, so what `read_grid` writes is accepted as a puzzle.
 use mathlib.Core.Path.{_≡_, refl, sym, ap, ap₂, subst, _∙_}
 use mathlib.Core.Bool.{true, false, and-false}
 use mathlib.Core.List.{List, [], _++_}
@@ -20,9 +20,10 @@ use Rattle.lines.proofs.Reading.{runs-proper}
 use Rattle.lines.proofs.Coloring.{Seen, named-seen, runs-few, runs-fit}
 use Rattle.puzzles.specs.Puzzle.{width, height, lines, clueAt, lengthAt}
 use Rattle.puzzles.specs.Colors.{solved, offSolved}
-use Rattle.puzzles.specs.Checks.{colors}
+use Rattle.puzzles.specs.Checks.{colors, puzzleChecks, puzzle}
 use Rattle.puzzles.specs.Good.{Good}
-use Rattle.grids.specs.Grid.{row, column, rowClues, columnClues, gridPuzzle, gridChecks}
+use Rattle.puzzles.proofs.Accepting.{good-accepted, good-read}
+use Rattle.grids.specs.Grid.{row, column, rowClues, columnClues, gridPuzzle, gridChecks, gridWords}
 use Rattle.grids.specs.Sized.{Sized}
 use Rattle.grids.proofs.Cells.{row-length, column-length}
 use Rattle.grids.proofs.Checking.{grid-sized, grid-bytes}
@@ -154,3 +155,12 @@ module _ (w h : ℕ) (grid : List ℕ) {n : ℕ} (e : accepted n ≡ gridChecks 
         known (grid-proper l L .colors b j) (block-seen l b L j);
     solved-known = λ i l. rw (mask-at i (omega (arith, masks-length))) (mask-known _);
   }
+
+  -- what `read_grid` writes is accepted as a puzzle, and read as the grid's
+  pub grid-accepted : puzzleChecks (gridWords w h grid) ≡ accepted (colors (gridPuzzle w h grid))
+  unfolding gridWords
+  grid-accepted = good-accepted (gridPuzzle w h grid) grid-good
+
+  pub grid-read : puzzle (gridWords w h grid) ≡ gridPuzzle w h grid
+  unfolding gridWords
+  grid-read = good-read (gridPuzzle w h grid) grid-good

@@ -4,6 +4,7 @@ ghost use Rattle.refusals.specs.Verdict.{accepted};
 ghost use Rattle.refusals.specs.Outcome.{Outcome};
 ghost use Rattle.bits.specs.Bits.{powers, joined};
 ghost use Rattle.lines.specs.Calls.{lineChecks, lineWords, clueChecks, startsWords, rangesWords};
+ghost use Rattle.grids.specs.Grid.{sizeChecks, gridChecks, transposed, gridWords};
 
 #[no_mangle]
 pub extern "C" fn haafgrim_two_powers(mask: u32, out: &mut [u32], place: &mut usize) -> u32
@@ -54,6 +55,36 @@ pub extern "C" fn haafgrim_color_ranges(
     ensures { λ r. ⌜ Outcome (clueChecks length (now (clue .entry))) (rangesWords length (now (clue .entry))) (now (out .entry)) r (now (place .exit)) (now (out .exit)) ⌝ }
 {
     let answer = lines::range::color_ranges(length, clue, out);
+    *place = answer.place();
+    answer.number()
+}
+
+#[no_mangle]
+pub extern "C" fn haafgrim_read_grid(
+    width: usize,
+    height: usize,
+    grid: &[u8],
+    out: &mut [u32],
+    place: &mut usize,
+) -> u32
+    ensures { λ r. ⌜ Outcome (gridChecks width height (now (grid .entry))) (gridWords width height (now (grid .entry))) (now (out .entry)) r (now (place .exit)) (now (out .exit)) ⌝ }
+{
+    let answer = grids::read::read_grid(width, height, grid, out);
+    *place = answer.place();
+    answer.number()
+}
+
+#[no_mangle]
+pub extern "C" fn haafgrim_transpose(
+    width: usize,
+    height: usize,
+    grid: &[u8],
+    out: &mut [u8],
+    place: &mut usize,
+) -> u32
+    ensures { λ r. ⌜ Outcome (sizeChecks width height (now (grid .entry))) (transposed width height (now (grid .entry))) (now (out .entry)) r (now (place .exit)) (now (out .exit)) ⌝ }
+{
+    let answer = grids::transpose::transpose(width, height, grid, out);
     *place = answer.place();
     answer.number()
 }
