@@ -67,7 +67,7 @@ module _ {A : Type 0} where
   pub wrote-before : {ws out out₁ : List A} {at at₁ : ℕ} → at ≤ length out → Wrote ws out at out₁ at₁ → (k n : ℕ) → k + n ≤ at → take n (drop k out₁) ≡ take n (drop k out)
   wrote-before {ws} {out} {out₁} {at} {at₁} h w k n b =
       let front : take (k + n) out₁ ≡ take (k + n) out =
-          ap (take (k + n)) (w .left) ∙ take-append-le (k + n) (take at out) _ (omega (arith, length-take-le at out h)) ∙ take-take (k + n) at out b in
+      ap (take (k + n)) (w .left) ∙ take-append-le (k + n) (take at out) _ (omega (arith, length-take-le at out h)) ∙ take-take (k + n) at out b in
       let long : at ≤ length out₁ = omega (arith, ap length (w .left), length-append (take at out) (ws ++ drop at₁ out), length-take-le at out h) in
       part-of k n out₁ (omega arith) ∙ ap (drop k) front ∙ sym (part-of k n out (omega arith))
 

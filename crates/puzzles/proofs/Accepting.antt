@@ -1,8 +1,8 @@
 -- Accepted words are the words of a good puzzle, which is read from them; and a good puzzle's words are accepted and read as it.
 use mathlib.Core.Path.{_≡_, refl, sym, ap, _∙_}
-use mathlib.Core.Bool.{Bool, true, false, not, _&&_, false≢true, true≢false}
-use mathlib.Core.List.{List, [], _∷_, _++_, append-nil}
-use Prim.Native.Nat.{ℕ, zero, suc, _+_, _*_, _≤_, _<_}
+use mathlib.Core.Bool.{true, false, not}
+use mathlib.Core.List.{List, [], _∷_, append-nil}
+use Prim.Native.Nat.{ℕ, zero, suc, _+_, _≤_, _<_}
 use native.Mathlib.Omega.{arith}
 use lib.Dec.{eqb, ltb}
 use lib.ListN.{length, getD}
@@ -21,7 +21,7 @@ use Rattle.puzzles.specs.Colors.{known, offSolved}
 use Rattle.puzzles.specs.Walk.{Walk, got, stop, readPuzzle}
 use Rattle.puzzles.specs.Checks.{colors, spaceChecks, columnChecks, solvedChecks, spaces, meaningChecks, sectionsOf, puzzleOf, puzzleChecks, puzzle}
 use Rattle.puzzles.specs.Good.{Good}
-use Rattle.puzzles.proofs.Readers.{Each, FineBlock, FineClue, FineLines, FinePuzzle, Reads, puzzle-only, puzzle-back}
+use Rattle.puzzles.proofs.Readers.{FineClue, FinePuzzle, puzzle-only, puzzle-back}
 use Rattle.puzzles.proofs.Lines.{clue-column, clue-row, each-line, spaces-fit}
 
 -- ---- colours that are known
@@ -75,8 +75,7 @@ module _ (z : Puzzle) where
       let R = first-accepted (spaceChecks (width z) (width z) (z .rows)) _ c in
       let K = first-accepted (columnChecks (colors z) (z .columns)) _ r in
       let M = first-accepted (solvedChecks (colors z) (z .masks)) _ k in
-      let fine = fine-lines z F in
-      (
+      let fine = fine-lines z F in (
         record {
           width-some = size-some (width z) (F .columns .0);
           width-most = size-within (width z) (F .columns .0);

@@ -4,8 +4,3 @@ pub mod Lines
 pub mod Accepting
 pub mod Sections
 pub mod Places
-pub mod Beginning
-pub mod Laying
-pub mod Finding
-pub mod Coloring
-pub mod Boards

@@ -1,6 +1,6 @@
 -- The sections of puzzle words, one after another: where each begins, and what their check answers.
 use mathlib.Core.Path.{_≡_, refl, sym, ap, _∙_}
-use mathlib.Core.List.{List, [], _∷_, _++_}
+use mathlib.Core.List.{List, _++_}
 use Prim.Native.Nat.{ℕ, _+_, _-_, _*_, _≤_, _<_}
 use native.Mathlib.Omega.{arith}
 use native.Mathlib.Nat.{mul-le-mul-right}
@@ -8,18 +8,18 @@ use lib.ListN.{length, take, drop, getD, length-append, length-drop}
 use lib.Seq.{drop-at, drop-drop, getD-drop}
 use borrow.Author.Tests.{lt-ltb, le-ltb}
 use Rattle.lists.proofs.Writing.{tail-is}
-use Rattle.refusals.specs.Verdict.{Verdict, accepted, refused, number, place}
+use Rattle.refusals.specs.Verdict.{accepted, refused, number, place}
 use Rattle.refusals.specs.Told.{refusal, told}
 use Rattle.refusals.specs.declared.Refusal.{Refusal}
 use Rattle.refusals.specs.declared.Answer.{Answer}
 use Rattle.refusals.specs.declared.Answer.the-variants.{Accepted, Refused}
 use Rattle.refusals.proofs.Answering.{refusal-is}
 use Rattle.lines.proofs.Checks.{size-within}
-use Rattle.puzzles.specs.Puzzle.{Puzzle, linesWords, cellsWords, rowsAt}
+use Rattle.puzzles.specs.Puzzle.{linesWords, cellsWords, rowsAt}
 use Rattle.puzzles.specs.Walk.{Walk, got, stop, outcome, readLines, readCells, readPuzzle}
 use Rattle.puzzles.specs.Checks.{sectionsOf}
 use Rattle.puzzles.proofs.Walking.{outcome-got}
-use Rattle.puzzles.proofs.Readers.{Reads, Reader, FineLines, FineCells, lines-reader, cells-reader}
+use Rattle.puzzles.proofs.Readers.{Reader, FineLines, FineCells}
 
 stopped : {A : Type 0} (w : Walk A) {k p : ℕ} → outcome w ≡ refused k p → w ≡ stop k p
 stopped (got a i ws) e = let z : _≡_ {A = ℕ} 0 1 = cc in absurd (omega arith)

@@ -1,18 +1,18 @@
 -- What each reader reads: exactly the words of something fine, and such words are read as that.
 use mathlib.Core.Path.{_≡_, refl, sym, ap, ap₂, _∙_}
-use mathlib.Core.Bool.{Bool, true, false, not}
+use mathlib.Core.Bool.{Bool, false, not}
 use mathlib.Core.List.{List, [], _∷_, _++_, append-assoc}
 use Prim.Native.Nat.{ℕ, zero, suc, _+_, _-_, _*_, _≤_, _<_}
 use native.Mathlib.Omega.{arith}
 use native.Mathlib.Nat.{add-zero, add-assoc}
 use lib.Dec.{eqb, ltb}
 use lib.ListN.{length, getD, length-append}
-use borrow.Author.Tests.{eq-eqb, ne-eqb, eqb-true, eqb-false, le-ltb, ltb-false}
+use borrow.Author.Tests.{ne-eqb, eqb-false, le-ltb, ltb-false}
 use Rattle.lists.proofs.Tests.{neither}
 use Rattle.lines.specs.Clue.{Block, words}
 use Rattle.lines.specs.Calls.{offSize, offColor}
 use Rattle.puzzles.specs.Puzzle.{Puzzle, width, height, clueWords, cluesWords, linesWords, cellsWords, puzzleWords}
-use Rattle.puzzles.specs.Walk.{Walk, got, stop, next, times, counted, readBlock, readClue, readLines, readMask, readCells, readPuzzle}
+use Rattle.puzzles.specs.Walk.{Walk, got, times, counted, readBlock, readClue, readLines, readMask, readCells, readPuzzle}
 use Rattle.puzzles.proofs.Walking.{same-got, stopIf-got, word-got, next-got}
 
 -- what was read at place i are the words W of it, and it is fine

@@ -1,8 +1,8 @@
 -- Readers in code, as they walk: one word, one after another, a section.
 use mathlib.Core.Path.{_≡_, refl, sym, ap, _∙_}
 use mathlib.Core.Bool.{Bool, true, false}
-use mathlib.Core.List.{List, [], _∷_, _++_}
-use Prim.Native.Nat.{ℕ, zero, suc, _+_, _-_, _≤_, _<_}
+use mathlib.Core.List.{List, [], _∷_}
+use Prim.Native.Nat.{ℕ, suc, _+_, _-_, _≤_, _<_}
 use native.Mathlib.Omega.{arith}
 use native.Mathlib.Nat.{add-zero}
 use lib.ListN.{length, take, drop, getD, length-append, length-drop}
@@ -18,7 +18,7 @@ use Rattle.refusals.proofs.Answering.{refusal-is}
 use Rattle.lines.specs.Calls.{offColor}
 use Rattle.puzzles.specs.Walk.{Walk, got, stop, outcome, word, next, times, counted, readBlock, readMask}
 use Rattle.puzzles.proofs.Walking.{Got, outcome-got, next-refused}
-use Rattle.puzzles.proofs.Readers.{Reads, Reader}
+use Rattle.puzzles.proofs.Readers.{Reader}
 
 -- ---- n of them, one after another
 
@@ -58,8 +58,7 @@ module _ {A : Type 0} where
       passed : (a : A) (us : List ℕ) → f (at + i) (drop i part) ≡ got a j us → (at + i ≤ j) × (j ≤ at + length part) × (drop (j - at) part ≡ us)
       passed a us g =
           let r = R .only (at + i) (drop i part) a j us g in
-          let n : i + length (W a) ≡ j - at = omega (arith, r .place-is) in
-          (
+          let n : i + length (W a) ≡ j - at = omega (arith, r .place-is) in (
             omega (arith, r .place-is),
             omega (arith, r .place-is, ap length (r .words-are), length-append (W a) us, length-drop i part, P .within),
             ap (λ (k : ℕ). drop k part) (sym n) ∙ sym (drop-drop (length (W a)) i part) ∙ rw (r .words-are) (drop-at (W a) us (length (W a)) refl),

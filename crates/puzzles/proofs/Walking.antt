@@ -1,19 +1,11 @@
 -- Walks: what must have been there where something was read, and where a walk comes to.
-use mathlib.Core.Path.{_≡_, refl, sym, ap, _∙_}
+use mathlib.Core.Path.{_≡_, refl}
 use mathlib.Core.Bool.{Bool, true, false}
-use mathlib.Core.List.{List, [], _∷_, _++_, append-assoc}
-use Prim.Native.Nat.{ℕ, zero, suc, _+_, _-_, _≤_, _<_}
+use mathlib.Core.List.{List, [], _∷_}
+use Prim.Native.Nat.{ℕ, _-_}
 use native.Mathlib.Omega.{arith}
-use native.Mathlib.Nat.{add-zero, add-assoc}
-use lib.ListN.{length, drop, getD, length-append, length-drop}
-use lib.Seq.{drop-at, drop-drop}
 use Rattle.refusals.specs.Verdict.{accepted, refused}
-use Rattle.refusals.specs.Told.{told}
-use Rattle.refusals.specs.declared.Refusal.{Refusal}
-use Rattle.refusals.specs.declared.Answer.{Answer}
-use Rattle.refusals.specs.declared.Answer.the-variants.{Refused}
-use Rattle.refusals.proofs.Answering.{refusal-is}
-use Rattle.puzzles.specs.Walk.{Walk, got, stop, outcome, stopIf, word, next, times}
+use Rattle.puzzles.specs.Walk.{Walk, got, stop, outcome, stopIf, word, next}
 
 module _ {A : Type 0} where
   pub record Got (w : Walk A) (j : ℕ) : Type 0 where

@@ -1,6 +1,6 @@
 -- Document 01, "Refusal numbers": the order for a puzzle. After the walk come 11; 6 by line; 9; 10; and else the colour set K.
 use mathlib.Core.Path.{_≡_}
-use mathlib.Core.Bool.{Bool, not}
+use mathlib.Core.Bool.{not}
 use mathlib.Core.List.{List, []}
 use Prim.Native.Nat.{ℕ}
 use lib.Dec.{ltb}

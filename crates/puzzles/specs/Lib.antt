@@ -3,5 +3,3 @@ pub mod Colors
 pub mod Walk
 pub mod Checks
 pub mod Good
-pub mod Table
-pub mod Reading

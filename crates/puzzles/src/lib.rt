@@ -1,6 +1,3 @@
-// Puzzle words: what they hold, their refusals, and the table of their lines.
-pub mod board;
+// Puzzle words: what they hold, and the walk over their sections.
 pub mod check;
-pub mod colors;
 pub mod section;
-pub mod table;

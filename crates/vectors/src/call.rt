@@ -1,77 +1,108 @@
-// A call of an entry by its name, with the length of the buffer that it is lent and its other numbers.
+// A call of an entry, with the length of the buffer that it is lent and its other numbers.
+use crate::entry::Entry;
+use crate::number::at_most;
+use crate::number::index;
+use crate::puzzle;
+use crate::show::show;
+use crate::show::show_bytes;
 use haafgrim::haafgrim_color_ranges;
 use haafgrim::haafgrim_from_two_powers;
+use haafgrim::haafgrim_read_grid;
 use haafgrim::haafgrim_read_line;
 use haafgrim::haafgrim_starts;
+use haafgrim::haafgrim_transpose;
 use haafgrim::haafgrim_two_powers;
-use libc::STDOUT_FILENO;
 ghost use Prim.Native.Nat.{_≤_};
 ghost use lib.ListN.{length};
 
-// The buffer is full of sevens before, so that what stays untouched shows.
-pub fn call(name: &[u8], room: u64, args: &[u64]) {
-    let mut words = [0u32; 160];
-    let n = as_words(args, &mut words);
-    let mut out = [7u32; 80];
-    lend(name, &words, n, &mut out, at_most(room, 80));
+// A line and a grid are the same numbers as bytes.
+pub fn call(entry: Entry, room: u32, args: &[u32]) {
+    let mut bytes = [0u8; 4200];
+    let n = as_bytes(args, &mut bytes);
+    match entry {
+        Entry::Puzzle => puzzle::answer(args),
+        Entry::Transpose => transpose(index(room), args, &bytes, n),
+        _ => lend(entry, index(room), args, &bytes, n),
+    }
 }
 
-fn lend(name: &[u8], words: &[u32], n: usize, out: &mut [u32], room: usize)
-    requires { ⌜ (n ≤ length (now words)) × (room ≤ length (now out)) ⌝ }
+// The buffer is full of sevens before, so that what stays untouched shows.
+fn lend(entry: Entry, room: usize, args: &[u32], bytes: &[u8], n: usize)
+    requires { ⌜ n ≤ length (now bytes) ⌝ }
+{
+    let mut out = [7u32; 25600];
+    answer(entry, args, &bytes[0..n], &mut out, at_most(room, 25600));
+}
+
+fn answer(entry: Entry, args: &[u32], bytes: &[u8], out: &mut [u32], room: usize)
+    requires { ⌜ room ≤ length (now out) ⌝ }
 {
     let mut place = 0;
-    let number = enter(name, &words[0..n], &mut out[0..room], &mut place);
-    show(number, place, &out[0..room]);
+    let number = enter(entry, args, bytes, &mut out[0..room], &mut place);
+    show(number, place, out, room);
 }
 
-fn enter(name: &[u8], words: &[u32], out: &mut [u32], place: &mut usize) -> u32 {
-    if check::same(name, b"from_two_powers") {
-        return haafgrim_from_two_powers(words);
+fn enter(entry: Entry, args: &[u32], bytes: &[u8], out: &mut [u32], place: &mut usize) -> u32 {
+    match entry {
+        Entry::FromTwoPowers => haafgrim_from_two_powers(args),
+        Entry::ReadLine => haafgrim_read_line(bytes, out, place),
+        Entry::ReadGrid => read_grid(args, bytes, out, place),
+        _ => enter_with(entry, args, out, place),
     }
-    if check::same(name, b"read_line") {
-        let mut line = [0u8; 160];
-        let n = as_bytes(words, &mut line);
-        return read_line(&line, n, out, place);
-    }
-    if words.len() == 0 {
+}
+
+// The entries that take a number first.
+fn enter_with(entry: Entry, args: &[u32], out: &mut [u32], place: &mut usize) -> u32 {
+    if args.len() == 0 {
         return 0;
     }
-    if check::same(name, b"two_powers") {
-        return haafgrim_two_powers(words[0], out, place);
-    }
-    let length = wide(words[0]) as usize;
-    if check::same(name, b"starts") {
-        return haafgrim_starts(length, &words[1..], out, place);
-    }
-    if check::same(name, b"color_ranges") {
-        return haafgrim_color_ranges(length, &words[1..], out, place);
-    }
-    0
+    enter_first(entry, args[0], &args[1..], out, place)
 }
 
-fn read_line(line: &[u8], n: usize, out: &mut [u32], place: &mut usize) -> u32
-    requires { ⌜ n ≤ length (now line) ⌝ }
-{
-    haafgrim_read_line(&line[0..n], out, place)
-}
-
-fn at_most(n: u64, most: usize) -> usize
-    ensures { λ r. ⌜ r ≤ most ⌝ }
-{
-    let m = n as usize;
-    if m < most { m } else { most }
-}
-
-fn as_words(args: &[u64], out: &mut [u32]) -> usize
-    ensures { λ r. ⌜ r ≤ length (now (out .entry)) ⌝ }
-{
-    for i in 0..args.len() {
-        if out.len() <= i {
-            return i;
-        }
-        out[i] = (args[i] % 4294967296) as u32;
+fn enter_first(entry: Entry, first: u32, rest: &[u32], out: &mut [u32], place: &mut usize) -> u32 {
+    match entry {
+        Entry::TwoPowers => haafgrim_two_powers(first, out, place),
+        Entry::Starts => haafgrim_starts(index(first), rest, out, place),
+        Entry::ColorRanges => haafgrim_color_ranges(index(first), rest, out, place),
+        _ => 0,
     }
-    args.len()
+}
+
+fn read_grid(args: &[u32], bytes: &[u8], out: &mut [u32], place: &mut usize) -> u32 {
+    if args.len() < 2 {
+        return 0;
+    }
+    if bytes.len() < 2 {
+        return 0;
+    }
+    haafgrim_read_grid(index(args[0]), index(args[1]), &bytes[2..], out, place)
+}
+
+fn transpose(room: usize, args: &[u32], bytes: &[u8], n: usize)
+    requires { ⌜ n ≤ length (now bytes) ⌝ }
+{
+    if args.len() < 2 {
+        return;
+    }
+    if n < 2 {
+        return;
+    }
+    let mut out = [7u8; 4200];
+    turn(
+        index(args[0]),
+        index(args[1]),
+        &bytes[2..n],
+        &mut out,
+        at_most(room, 4200),
+    );
+}
+
+fn turn(width: usize, height: usize, grid: &[u8], out: &mut [u8], room: usize)
+    requires { ⌜ room ≤ length (now out) ⌝ }
+{
+    let mut place = 0;
+    let number = haafgrim_transpose(width, height, grid, &mut out[0..room], &mut place);
+    show_bytes(number, place, &out[0..room]);
 }
 
 fn as_bytes(words: &[u32], out: &mut [u8]) -> usize
@@ -84,24 +115,4 @@ fn as_bytes(words: &[u32], out: &mut [u8]) -> usize
         out[i] = (words[i] % 256) as u8;
     }
     words.len()
-}
-
-// The number, the place and the whole buffer.
-fn show(number: u32, place: usize, out: &[u32]) {
-    put(number as u64);
-    put(place as u64);
-    io::write_all(STDOUT_FILENO, b":");
-    for i in 0..out.len() {
-        put(wide(out[i]));
-    }
-    io::write_all(STDOUT_FILENO, b"\n");
-}
-
-fn put(n: u64) {
-    io::write_all(STDOUT_FILENO, b" ");
-    io::print_decimal(STDOUT_FILENO, n);
-}
-
-fn wide(n: u32) -> u64 {
-    n as u64
 }

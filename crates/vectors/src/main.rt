@@ -1,26 +1,38 @@
 // Answers the cases of standard input: a line is an entry's name and its numbers, and what the entry says of them comes after it.
 // What must come out is stored, so that every number, place and word is compared, those that must stay untouched too.
 mod call;
+mod entry;
+mod number;
+mod puzzle;
+mod show;
 mod text;
 
+use entry::named;
 use libc::STDIN_FILENO;
 use libc::STDOUT_FILENO;
-use text::line_end;
+use text::find;
 use text::numbers;
-use text::word_end;
+ghost use mathlib.Core.Path.{_≡_};
 ghost use Prim.Native.Nat.{_≤_};
 ghost use lib.ListN.{length};
 
 fn main() {
-    let mut input = io::large_buffer();
+    let mut input = input_buffer();
     let n = io::read_full(STDIN_FILENO, &mut input);
     answer_all(&input[..n]);
+}
+
+// Room for a megabyte of cases.
+fn input_buffer() -> [u8; 1048576]
+    ensures { λ r. ⌜ 1048576 ≡ length r ⌝ }
+{
+    [0; 1048576]
 }
 
 fn answer_all(input: &[u8]) {
     let mut from = 0;
     while from < input.len() {
-        let to = line_end(input, from);
+        let to = find(input, from, b'\n');
         answer(&input[from..to]);
         from = to + 1;
     }
@@ -36,16 +48,19 @@ fn answer(line: &[u8]) {
     if line[0] == b'#' {
         return;
     }
-    let name = word_end(line);
-    let mut args = [0u64; 160];
-    let n = numbers(&line[name..], &mut args);
+    let name = find(line, 0, b' ');
+    if name == line.len() {
+        return;
+    }
+    let mut args = [0u32; 25600];
+    let n = numbers(&line[name + 1..], &mut args);
     pass(&line[0..name], &args, n);
 }
 
-fn pass(name: &[u8], args: &[u64], n: usize)
+fn pass(name: &[u8], args: &[u32], n: usize)
     requires { ⌜ n ≤ length (now args) ⌝ }
 {
     if 0 < n {
-        call::call(name, args[0], &args[1..n]);
+        call::call(named(name), args[0], &args[1..n]);
     }
 }

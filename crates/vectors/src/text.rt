@@ -2,14 +2,14 @@
 ghost use Prim.Native.Nat.{_≤_};
 ghost use lib.ListN.{length};
 
-// Where the line that holds `from` ends.
-pub fn line_end(text: &[u8], from: usize) -> usize
+// Where the first such byte from `from` on stands, or else the end.
+pub fn find(text: &[u8], from: usize, byte: u8) -> usize
     requires { ⌜ from ≤ length (now text) ⌝ }
     ensures { λ r. ⌜ (from ≤ r) × (r ≤ length (now (text .entry))) ⌝ }
 {
     let mut i = from;
     while i < text.len() {
-        if text[i] == b'\n' {
+        if text[i] == byte {
             return i;
         }
         i += 1;
@@ -17,53 +17,68 @@ pub fn line_end(text: &[u8], from: usize) -> usize
     i
 }
 
-// Where the first word ends.
-pub fn word_end(line: &[u8]) -> usize
-    ensures { λ r. ⌜ r ≤ length (now (line .entry)) ⌝ }
-{
-    let mut i = 0;
-    while i < line.len() {
-        if line[i] == b' ' {
-            return i;
-        }
-        i += 1;
-    }
-    i
-}
-
-// The numbers of a line into out, as many as it has room for; answers how many.
-pub fn numbers(line: &[u8], out: &mut [u64]) -> usize
+// The numbers of a line's words into out, as many as it has room for; answers how many.
+pub fn numbers(line: &[u8], out: &mut [u32]) -> usize
     ensures { λ r. ⌜ r ≤ length (now (out .entry)) ⌝ }
 {
     let mut count = 0;
-    let mut i = 0;
-    while i < line.len() {
-        let b = line[i];
-        i += 1;
-        if b == b' ' {
-            if count < out.len() {
-                out[count] = 0;
-                count += 1;
-            }
-            continue;
-        }
-        if 0 < count {
-            out[count - 1] = shifted(out[count - 1], b);
-        }
+    let mut from = 0;
+    while from < line.len() {
+        let to = find(line, from, b' ');
+        count = put_word(&line[from..to], out, count);
+        from = to + 1;
     }
     count
 }
 
-// The number with one more digit; a number beyond 18 digits stays.
-fn shifted(n: u64, digit: u8) -> u64 {
+// A word is a number, or `N*M` for M times the number N.
+fn put_word(word: &[u8], out: &mut [u32], at: usize) -> usize
+    requires { ⌜ at ≤ length (now out) ⌝ }
+    ensures { λ r. ⌜ r ≤ length (now (out .entry)) ⌝ }
+{
+    let star = find(word, 0, b'*');
+    let n = number(&word[0..star]);
+    if star == word.len() {
+        return repeat(out, at, n, 1);
+    }
+    repeat(out, at, n, number(&word[star..]))
+}
+
+fn repeat(out: &mut [u32], at: usize, n: u32, times: u32) -> usize
+    requires { ⌜ at ≤ length (now out) ⌝ }
+    ensures { λ r. ⌜ r ≤ length (now (out .entry)) ⌝ }
+{
+    let mut next = at;
+    for _ in 0..times {
+        if next == out.len() {
+            return next;
+        }
+        out[next] = n;
+        next += 1;
+    }
+    next
+}
+
+// The number that a word's digits are; other bytes are passed over.
+fn number(word: &[u8]) -> u32 {
+    let mut n = 0;
+    for i in 0..word.len() {
+        n = shifted(n, word[i]);
+    }
+    n
+}
+
+// The number with one more digit; what would leave 32 bits stays.
+fn shifted(n: u32, digit: u8) -> u32 {
     if digit < b'0' {
         return n;
     }
     if b'9' < digit {
         return n;
     }
-    if 100_000_000_000_000_000 < n {
+    let more = n as u64 * 10 + (digit - b'0') as u64;
+    if 4294967295 < more {
         return n;
     }
-    n * 10 + (digit - b'0') as u64
+    more as u32
 }

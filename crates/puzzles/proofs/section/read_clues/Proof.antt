@@ -6,9 +6,6 @@ use native.Mathlib.Omega.{arith}
 use borrow.Author.Needs.{needs}
 use Rattle.puzzles.proofs.section.read_clues.Statement.{statement}
 use Rattle.puzzles.proofs.section.read_clues.Tie as tie
-use Rattle.puzzles.proofs.section.read_clues.Reads as reads
-use Rattle.puzzles.proofs.section.read_clues.Lts as lts
-use Rattle.puzzles.proofs.section.read_clue.Reads as read-clue-reads
 
 abbrev Inv-loop : tie.InvT-loop
 Inv-loop n part at i₀ k₀ i k = Passing readClue n at part k i
@@ -16,73 +13,25 @@ Inv-loop n part at i₀ k₀ i k = Passing readClue n at part k i
 abbrev μ-loop : tie.MeasureT-loop
 μ-loop n part at i₀ k₀ i k = n - k
 
-loop-holds : tie.Need-loop-holds Inv-loop μ-loop
-loop-holds c = passing-first _ _ _ _
-
-mul-read-clue : tie.Need-mul-read-clue Inv-loop μ-loop
-mul-read-clue c = search needs
-
-sub-read-clue : tie.Need-sub-read-clue Inv-loop μ-loop
-sub-read-clue c = search needs
-
-part-read-clue-start : tie.Need-part-read-clue-start Inv-loop μ-loop
-part-read-clue-start c = search needs
-
-part-read-clue-end : tie.Need-part-read-clue-end Inv-loop μ-loop
-part-read-clue-end c = search needs
-
-add-read-clue : tie.Need-add-read-clue Inv-loop μ-loop
-add-read-clue c = search needs
-
-read-clue-requires : tie.Need-read-clue-requires Inv-loop μ-loop
-read-clue-requires c κs = search needs
-
-enum-known-read : tie.Need-enum-known-read Inv-loop μ-loop
-enum-known-read c = search needs
-
-enum-told : tie.Need-enum-told Inv-loop μ-loop
-enum-told c = search needs
-
-returns : tie.Need-returns Inv-loop μ-loop
-returns c = passing-stop (c .before .before .before .before .before .loop .inv) _ (c .before .before .read-clue .ensures) (c .before .before .before .before .loop-test .taken) (c .enum-told .given .1)
-
-sub-i : tie.Need-sub-i Inv-loop μ-loop
-sub-i c = omega (arith, passing-low (c .before .before .before .before .before .before .loop .inv) _ (c .before .before .before .read-clue .ensures) clue-reader (c .before .read .given .1))
-
-add-k : tie.Need-add-k Inv-loop μ-loop
-add-k c = search needs
-
-loop-less : tie.Need-loop-less Inv-loop μ-loop
-loop-less c = search needs
-
-loop-again : tie.Need-loop-again Inv-loop μ-loop
-loop-again c = passing-next (c .before .before .before .before .before .before .loop .inv) _ (c .before .before .before .read-clue .ensures) clue-reader (c .before .read .given .1) (c .before .before .before .before .before .loop-test .taken)
-
-add-t15 : tie.Need-add-t15 Inv-loop μ-loop
-add-t15 c = search needs
-
-returns-2 : tie.Need-returns-2 Inv-loop μ-loop
-returns-2 c = passing-done (c .before .loop .inv) (c .loop-test .left)
-
 pub read-clues-spec : {M : Type 1} → statement M
 read-clues-spec =
     tie.close
     (tie.spec
     Inv-loop
     μ-loop
-    loop-holds
-    mul-read-clue
-    sub-read-clue
-    part-read-clue-start
-    part-read-clue-end
-    add-read-clue
-    read-clue-requires
-    enum-known-read
-    enum-told
-    returns
-    sub-i
-    add-k
-    loop-less
-    loop-again
-    add-t15
-    returns-2)
+    (λ c. passing-first _ _ _ _)
+    (λ c. search needs)
+    (λ c. search needs)
+    (λ c. search needs)
+    (λ c. search needs)
+    (λ c. search needs)
+    (λ c κs. search needs)
+    (λ c. search needs)
+    (λ c. search needs)
+    (λ c. passing-stop (c .before .before .before .before .before .loop .inv) _ (c .before .before .read-clue .ensures) (c .before .before .before .before .loop-test .taken) (c .enum-told .given .1))
+    (λ c. omega (arith, passing-low (c .before .before .before .before .before .before .loop .inv) _ (c .before .before .before .read-clue .ensures) clue-reader (c .before .read .given .1)))
+    (λ c. search needs)
+    (λ c. search needs)
+    (λ c. passing-next (c .before .before .before .before .before .before .loop .inv) _ (c .before .before .before .read-clue .ensures) clue-reader (c .before .read .given .1) (c .before .before .before .before .before .loop-test .taken))
+    (λ c. search needs)
+    (λ c. passing-done (c .before .loop .inv) (c .loop-test .left)))

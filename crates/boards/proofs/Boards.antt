@@ -1,0 +1,147 @@
+-- The numbers of a board, among the words and in the table.
+use mathlib.Core.Path.{_≡_, refl, sym, ap, _∙_}
+use mathlib.Core.Bool.{cond}
+use mathlib.Core.List.{List, _++_}
+use Prim.Native.Nat.{ℕ, _+_, _-_, _*_, _<_}
+use native.Mathlib.Omega.{arith}
+use native.Mathlib.Nat.{add-zero}
+use lib.Dec.{eqb}
+use lib.ListN.{length, take, drop, getD, length-append, length-drop}
+use lib.Seq.{drop-at, drop-drop, getD-append-add}
+use borrow.Author.Tests.{ne-eqb}
+use Rattle.lists.proofs.Writing.{tail-is}
+use Rattle.refusals.specs.Verdict.{Verdict, accepted, refused, number, place, andThen}
+use Rattle.refusals.specs.Told.{refusal, told}
+use Rattle.refusals.specs.declared.Refusal.{Refusal}
+use Rattle.refusals.specs.declared.Answer.{Answer}
+use Rattle.refusals.specs.declared.Answer.the-variants.{Refused}
+use Rattle.refusals.proofs.Answering.{refusal-is, handed-up, first-accepted, then-accepted}
+use Rattle.puzzles.specs.Puzzle.{Puzzle, width, height, lines, linesWords, cellsWords, puzzleWords, rowsAt, cellsAt}
+use Rattle.puzzles.specs.Walk.{readPuzzle}
+use Rattle.puzzles.specs.Checks.{colors, spaceChecks, columnChecks, solvedChecks, spaces, meaningChecks, sectionsOf, puzzle, puzzleChecks, Sectioned}
+use Rattle.boards.specs.Table.{beginAt, Laid}
+use Rattle.puzzles.proofs.Accepting.{Walked, walked-is, size-some}
+use Rattle.boards.proofs.Beginning.{begin-next, begin-rows, begin-cells}
+use Rattle.boards.proofs.Finding.{laid-begin, found}
+
+module _ (z : Puzzle) where
+  first-word : getD (puzzleWords z) 0 0 ≡ width z
+  unfolding puzzleWords linesWords
+  first-word = refl
+
+  rows-word : getD (puzzleWords z) (rowsAt z) 0 ≡ height z
+  unfolding puzzleWords linesWords rowsAt
+  rows-word =
+      ap (λ (k : ℕ). getD (puzzleWords z) k 0) (sym (add-zero (rowsAt z)))
+      ∙ getD-append-add (linesWords (z .columns)) (linesWords (z .rows) ++ cellsWords (z .masks)) 0 0
+
+  masks-words : drop (cellsAt z) (puzzleWords z) ≡ cellsWords (z .masks)
+  unfolding puzzleWords rowsAt cellsAt
+  masks-words =
+      sym (drop-drop (length (linesWords (z .rows))) (length (linesWords (z .columns))) (puzzleWords z))
+      ∙ ap (drop (length (linesWords (z .rows)))) (drop-at (linesWords (z .columns)) (linesWords (z .rows) ++ cellsWords (z .masks)) (length (linesWords (z .columns))) refl)
+      ∙ drop-at (linesWords (z .rows)) (cellsWords (z .masks)) (length (linesWords (z .rows))) refl
+
+module _ (ws : List ℕ) (S : Sectioned ws) where
+  W : Walked ws (rowsAt (puzzle ws))
+  W = walked-is ws S
+
+  pub width-word : getD ws 0 0 ≡ width (puzzle ws)
+  width-word = ap (λ (l : List ℕ). getD l 0 0) (W .words-are) ∙ first-word (puzzle ws)
+
+  pub height-word : {rows : ℕ} → rows ≡ rowsAt (puzzle ws) → getD ws rows 0 ≡ height (puzzle ws)
+  height-word e = rw e (ap (λ (l : List ℕ). getD l (rowsAt (puzzle ws)) 0) (W .words-are) ∙ rows-word (puzzle ws))
+
+  pub masks-within : {cells : ℕ} → cells ≡ cellsAt (puzzle ws) → cells < length ws
+  unfolding cellsWords
+  masks-within e = omega (arith, length-drop (cellsAt (puzzle ws)) ws, ap length (ap (drop (cellsAt (puzzle ws))) (W .words-are) ∙ masks-words (puzzle ws)))
+
+  -- `&words[cells + 1..]`
+  pub masks-part : {cells : ℕ} → cells ≡ cellsAt (puzzle ws) → take (length ws - (cells + 1)) (drop (cells + 1) ws) ≡ puzzle ws .masks
+  unfolding cellsWords
+  masks-part {cells} e =
+      tail-is ws (cells + 1) ∙ sym (drop-drop 1 cells ws) ∙ rw e (ap (drop 1) (ap (drop (cellsAt (puzzle ws))) (W .words-are) ∙ masks-words (puzzle ws)))
+
+  pub height-some : 0 < height (puzzle ws)
+  height-some = size-some (height (puzzle ws)) (W .fine .rows .0)
+
+  pub width-some : 0 < width (puzzle ws)
+  width-some = size-some (width (puzzle ws)) (W .fine .columns .0)
+
+  pub rows-within : rowsAt (puzzle ws) < length ws
+  unfolding rowsAt puzzleWords linesWords
+  rows-within =
+      let z = puzzle ws in
+      omega (arith, ap length (W .words-are), length-append (linesWords (z .columns)) (linesWords (z .rows) ++ cellsWords (z .masks)))
+
+  module _ (table : List ℕ) (L : Laid (puzzle ws) table) where
+    pub rows-laid : {w n : ℕ} → w ≡ width (puzzle ws) → n ≡ getD table (68 * w) 0 → n ≡ rowsAt (puzzle ws) + 1
+    rows-laid {w} we e =
+        e ∙ rw we (laid-begin (puzzle ws) table (width (puzzle ws)) (L (width (puzzle ws)) (omega (arith, height-some))) ∙ begin-rows (puzzle ws))
+
+    -- the cells begin behind the last line's clue
+    pub cells-laid : (l : ℕ) {from end : ℕ} → l + 1 ≡ lines (puzzle ws) → from ≡ getD table (68 * l) 0 → end ≡ from + 1 + 2 * getD ws from 0 → end ≡ cellsAt (puzzle ws)
+    cells-laid l {from} {end} le e q =
+        let z = puzzle ws in
+        let h : l < lines z = omega arith in
+        let b : from ≡ beginAt z l = e ∙ laid-begin z table l (L l h) in
+        let H = found ws S table L l h e in
+        let n = begin-next z l h in
+        let no : l + 1 ≡ width z → ⊥ = λ u. omega (arith, height-some) in
+        let c : _≡_ {A = ℕ} (cond (eqb (l + 1) (width z)) 1 0) 0 = rw (ne-eqb (l + 1) (width z) no) in
+        omega (arith, b, q, n, c, H .count-is, ap (beginAt z) le, begin-cells z)
+
+-- ---- the checks, one after another
+
+pub sectioned-is : (ws : List ℕ) {n : ℕ} → accepted n ≡ sectionsOf (readPuzzle ws) → Sectioned ws
+sectioned-is ws e = rw (← walked-is ws e .rows-are) e
+
+pub accepted-sectioned : (ws : List ℕ) {n : ℕ} → accepted n ≡ puzzleChecks ws → Sectioned ws
+accepted-sectioned ws e = sectioned-is ws (first-accepted (sectionsOf (readPuzzle ws)) (meaningChecks (puzzle ws)) e .1)
+
+-- a refusal before the last step is one whatever follows
+then-refused : (v w w′ : Verdict) {k p : ℕ} → refused k p ≡ andThen v w → (refused k p ≡ w → refused k p ≡ w′) → refused k p ≡ andThen v w′
+then-refused (accepted n) w w′ e h = h e
+then-refused (refused k p) w w′ e h = e
+
+pub spaces-off : (z : Puzzle) (n : ℕ) {a : Answer} {why : Refusal} → a ≡ Refused why → told a ≡ spaces z (accepted n) → told a ≡ meaningChecks z
+unfolding spaces meaningChecks
+spaces-off z n {a} {why} r e =
+    let v = andThen (columnChecks (colors z) (z .columns)) (andThen (solvedChecks (colors z) (z .masks)) (accepted (colors z))) in
+    let t : told a ≡ refused (number (refusal why)) (place (refusal why)) = ap told r ∙ refusal-is why in
+    let rows = spaceChecks (width z) (width z) (z .rows) in
+    t
+    ∙ then-refused (spaceChecks (height z) 0 (z .columns)) (andThen rows (accepted n)) (andThen rows v) (sym t ∙ e)
+    (λ f. then-refused rows (accepted n) v f (λ g. let q : _≡_ {A = ℕ} 0 1 = cc in absurd (omega arith)))
+
+module _ (z : Puzzle) {n : ℕ} (s : accepted n ≡ spaces z (accepted (cellsAt z))) where
+  spaces-pass : (v : Verdict) → spaces z v ≡ v
+  unfolding spaces
+  spaces-pass v =
+      let c = first-accepted (spaceChecks (height z) 0 (z .columns)) _ s in
+      let r = first-accepted (spaceChecks (width z) (width z) (z .rows)) _ (then-accepted (spaceChecks (height z) 0 (z .columns)) _ s) in
+      rw (← c .1, ← r .1)
+
+  pub spaces-place : n ≡ cellsAt z
+  spaces-place = let e = s ∙ spaces-pass (accepted (cellsAt z)) in cc
+
+  module _ {K : ℕ} (ke : K ≡ colors z) where
+    meaning : meaningChecks z ≡ andThen (columnChecks K (z .columns)) (andThen (solvedChecks K (z .masks)) (accepted K))
+    unfolding meaningChecks
+    meaning = spaces-pass _ ∙ rw ke
+
+    pub columns-off : {a : Answer} {why : Refusal} → a ≡ Refused why → told a ≡ columnChecks K (z .columns) → told a ≡ meaningChecks z
+    columns-off {a} r e = handed-up r _ ∙ ap (λ (v : Verdict). andThen v (andThen (solvedChecks K (z .masks)) (accepted K))) e ∙ sym meaning
+
+    module _ {k : ℕ} (c : accepted k ≡ columnChecks K (z .columns)) where
+      pub cells-off : {a : Answer} {why : Refusal} → a ≡ Refused why → told a ≡ solvedChecks K (z .masks) → told a ≡ meaningChecks z
+      cells-off {a} r e = handed-up r _ ∙ ap (λ (v : Verdict). andThen v (accepted K)) e ∙ sym (meaning ∙ rw (← c))
+
+      pub meaning-done : {j : ℕ} → accepted j ≡ solvedChecks K (z .masks) → accepted K ≡ meaningChecks z
+      meaning-done e = sym (meaning ∙ rw (← c, ← e))
+
+pub sections-off : (ws : List ℕ) {a : Answer} {why : Refusal} → a ≡ Refused why → told a ≡ sectionsOf (readPuzzle ws) → told a ≡ puzzleChecks ws
+sections-off ws r e = handed-up r _ ∙ ap (λ (v : Verdict). andThen v (meaningChecks (puzzle ws))) e
+
+pub sections-on : (ws : List ℕ) → Sectioned ws → {v : Verdict} → v ≡ meaningChecks (puzzle ws) → v ≡ puzzleChecks ws
+sections-on ws S e = e ∙ rw (← S)

@@ -1,0 +1,34 @@
+use Rattle.boards.proofs.Boards.{sectioned-is, sections-off, sections-on, width-word, height-word, rows-within}
+use Rattle.puzzles.proofs.Accepting.{walked-is}
+use Rattle.puzzles.specs.Puzzle as P
+use Rattle.puzzles.specs.Checks as C
+use Rattle.refusals.proofs.Answering.{refused-not}
+use Rattle.refusals.specs.Told.{told}
+use native.Mathlib.Omega.{arith}
+use mathlib.Core.Path.{_≡_, sym, ap, _∙_}
+use borrow.Author.Needs.{needs}
+use Rattle.boards.proofs.board.check_puzzle.Statement.{statement}
+use Rattle.boards.proofs.board.check_puzzle.Tie as tie
+
+sectioned : (c : tie.After-known-told) → C.Sectioned (c .before .before .before .before .before .before .args .words .now)
+sectioned c = sectioned-is _ (sym (ap told (c .before .sections .given .1)) ∙ c .before .before .before .check-sections .ensures)
+
+rows-are : (c : tie.After-known-told) → c .before .sections .given .0 .0 ≡ P.rowsAt (C.puzzle (c .before .before .before .before .before .before .args .words .now))
+rows-are c = walked-is _ (sym (ap told (c .before .sections .given .1)) ∙ c .before .before .before .check-sections .ensures) .rows-are
+
+pub check-puzzle-spec : {M : Type 1} → statement M
+check-puzzle-spec =
+    tie.close
+    (tie.spec
+    (λ c κs. search needs)
+    (λ c. search needs)
+    (λ c. search needs)
+    (λ c. (sections-off _ (c .enum-told .given .1) (c .before .before .check-sections .ensures), λ n e. absurd (refused-not (c .enum-told .given .1) n e)))
+    (λ c. omega (arith, rows-within _ (sectioned (c .before)), rows-are (c .before)))
+    (λ c κs. search needs)
+    (λ c. omega (arith, rows-within _ (sectioned (c .before .before)), rows-are (c .before .before)))
+    (λ c. omega (arith, rows-within _ (sectioned (c .before .before .before)), rows-are (c .before .before .before)))
+    (λ c κs. search needs)
+    (λ c κs. (sectioned (c .before .before .before .before .before), (c .before .before .before .wide .ensures ∙ width-word _ (sectioned (c .before .before .before .before .before)), c .before .wide2 .ensures ∙ height-word _ (sectioned (c .before .before .before .before .before)) (rows-are (c .before .before .before .before .before)), c .before .before .before .before .before .before .before .before .before .before .before .pre)))
+    (λ c. search needs)
+    (λ c. (sections-on _ (sectioned (c .before .before .before .before .before .before .before .before)) (c .before .before .check-meaning .ensures .0), c .before .before .check-meaning .ensures .1)))

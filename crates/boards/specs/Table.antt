@@ -1,0 +1,41 @@
+-- What is laid of a puzzle's lines once per call, in a table of 68 words a line: where its clue begins, its first variable,
+-- and then what the starts call writes of it.
+use mathlib.Core.Path.{_≡_}
+use mathlib.Core.Bool.{cond}
+use mathlib.Core.List.{List, _∷_, _++_}
+use Prim.Native.Nat.{ℕ, zero, suc, _+_, _*_, _≤_, _<_}
+use lib.Dec.{ltb}
+use lib.ListN.{length, take, drop}
+use Rattle.lines.specs.Clue.{gap, words, positions}
+use Rattle.lines.specs.Calls.{startsWords}
+use Rattle.puzzles.specs.Puzzle.{Puzzle, width, lines, cluesWords, clueAt, lengthAt}
+
+-- the word of the line's block count: the counts of the sections and the clues before it come first
+unfoldable pub beginAt : Puzzle → ℕ → ℕ
+beginAt z l = cond (ltb l (width z)) 1 2 + length (cluesWords (take l (z .columns ++ z .rows)))
+
+-- the positions of each of its blocks
+abbrev pub positionsAt : Puzzle → ℕ → ℕ
+positionsAt z l = positions gap (lengthAt z l) (clueAt z l)
+
+-- a variable for each position of each block of the lines before it, counted from 1
+unfoldable pub firstAt : Puzzle → ℕ → ℕ
+firstAt z zero = 1
+firstAt z (suc l) = firstAt z l + length (clueAt z l) * positionsAt z l
+
+unfoldable pub lineWords : Puzzle → ℕ → List ℕ
+lineWords z l = beginAt z l ∷ firstAt z l ∷ startsWords (lengthAt z l) (words (clueAt z l))
+
+-- the line's words stand at its place in the table
+abbrev pub LineLaid : Puzzle → List ℕ → ℕ → Type 0
+LineLaid z table l = take (length (lineWords z l)) (drop (68 * l) table) ≡ lineWords z l
+
+abbrev pub Laid : Puzzle → List ℕ → Type 0
+Laid z table = (l : ℕ) → l < lines z → LineLaid z table l
+
+-- where the loop that lays them stands, before line l
+pub record Standing (z : Puzzle) (l at first : ℕ) : Type 0 where
+  pub at-is : at ≡ beginAt z l
+  pub at-most : at ≤ 1 + 130 * l
+  pub first-is : first ≡ firstAt z l
+  pub first-most : first ≤ 1 + 4160 * l

@@ -1,0 +1,4 @@
+// Puzzle words read as a whole: the table of their lines, the colour set, and a board of numbers.
+pub mod board;
+mod colors;
+pub mod table;

@@ -1,0 +1,87 @@
+// The table of a puzzle's lines, laid once per call: 68 words a line.
+use lines::clue::starts;
+use lists::put_pair;
+use lists::wide;
+use refusals::Answer;
+use refusals::Refusal;
+ghost use mathlib.Core.Path.{_≡_};
+ghost use mathlib.Core.Bool.{cond};
+ghost use Prim.Native.Nat.{ℕ, _+_, _*_, _^_, _≤_, _<_};
+ghost use lib.Dec.{eqb, ltb};
+ghost use lib.ListN.{length, getD};
+ghost use Rattle.lists.specs.Wrote.{Wrote};
+ghost use Rattle.refusals.specs.Told.{told};
+ghost use Rattle.refusals.specs.Verdict.{accepted, refuse};
+ghost use Rattle.lines.specs.Clue.{gap, minSpace};
+ghost use Rattle.puzzles.specs.Puzzle as P;
+ghost use Rattle.puzzles.specs.Checks.{puzzle, Sectioned, spaces};
+ghost use Rattle.boards.specs.Table.{positionsAt, lineWords, Laid, Standing};
+
+// The cells of line l.
+fn line_length(l: usize, width: usize, height: usize) -> usize
+    ensures { λ r. ⌜ r ≡ cond (ltb l width) height width ⌝ }
+{
+    if l < width { height } else { width }
+}
+
+// The end of line l's clue, past the rows' count after the last column.
+fn next_begin(end: usize, l: usize, width: usize) -> usize
+    requires { ⌜ (end < 2 ^ 32) × (l < 2 ^ 32) ⌝ }
+    ensures { λ r. ⌜ r ≡ end + cond (eqb (l + 1) width) 1 0 ⌝ }
+{
+    if l + 1 == width { end + 1 } else { end }
+}
+
+// Lays line l, and answers how many variables it has; 6 where its clue needs more than its length.
+fn lay_line(
+    words: &[u32],
+    l: usize,
+    cells: usize,
+    at: usize,
+    first: usize,
+    table: &mut [u32],
+) -> Answer
+    requires { ⌜ Sectioned (now words) ⌝ }
+    requires { ⌜ Standing (puzzle (now words)) l at first ⌝ }
+    requires { ⌜ (l < P.lines (puzzle (now words))) × (cells ≡ P.lengthAt (puzzle (now words)) l) × (8704 ≤ length (now table)) ⌝ }
+    ensures { λ r. ⌜ told r ≡ refuse (ltb cells (minSpace gap (P.clueAt (puzzle (now (words .entry))) l))) 6 l (accepted (length (P.clueAt (puzzle (now (words .entry))) l) * positionsAt (puzzle (now (words .entry))) l)) ⌝ }
+    ensures { λ r. ⌜ (minSpace gap (P.clueAt (puzzle (now (words .entry))) l) ≤ cells → (next : ℕ) × Wrote (lineWords (puzzle (now (words .entry))) l) (now (table .entry)) (68 * l) (now (table .exit)) next) ⌝ }
+{
+    let n = wide(words[at]);
+    let to = put_pair(at as u32, first as u32, table, 68 * l);
+    let answer = starts(cells, &words[at + 1..at + 1 + 2 * n], &mut table[to..]);
+    let Answer::Accepted(_) = answer else {
+        return Answer::Refused(Refusal::LineTooShort(l));
+    };
+    Answer::Accepted(n * wide(table[to]))
+}
+
+// Lays the lines, columns and then rows, and answers the place where the cells begin; 6 at the first whose clue needs more than its length.
+pub fn lay_lines(words: &[u32], width: usize, height: usize, table: &mut [u32]) -> Answer
+    requires { ⌜ Sectioned (now words) ⌝ }
+    requires { ⌜ (width ≡ P.width (puzzle (now words))) × (height ≡ P.height (puzzle (now words))) × (8704 ≤ length (now table)) ⌝ }
+    ensures { λ r. ⌜ told r ≡ spaces (puzzle (now (words .entry))) (accepted (P.cellsAt (puzzle (now (words .entry))))) ⌝ }
+    ensures { λ r. ⌜ ((n : ℕ) → told r ≡ accepted n → Laid (puzzle (now (words .entry))) (now (table .exit))) ⌝ }
+{
+    let mut at = 1;
+    let mut first = 1;
+    for l in 0..width + height {
+        let cells = line_length(l, width, height);
+        let laid = lay_line(words, l, cells, at, first, table);
+        let Answer::Accepted(variables) = laid else {
+            return laid;
+        };
+        first += variables;
+        let n = wide(words[at]);
+        at = next_begin(at + 1 + 2 * n, l, width);
+    }
+    Answer::Accepted(at)
+}
+
+// Where the clue that begins at `from` ends.
+pub fn clue_end(words: &[u32], from: usize) -> usize
+    requires { ⌜ from + 1 + 2 * getD (now words) from 0 ≤ length (now words) ⌝ }
+    ensures { λ r. ⌜ r ≡ from + 1 + 2 * getD (now (words .entry)) from 0 ⌝ }
+{
+    from + 1 + 2 * wide(words[from])
+}

@@ -1,0 +1,40 @@
+// The entries by name.
+pub enum Entry {
+    TwoPowers,
+    FromTwoPowers,
+    ReadLine,
+    Starts,
+    ColorRanges,
+    ReadGrid,
+    Transpose,
+    Puzzle,
+    Unknown,
+}
+
+pub fn named(name: &[u8]) -> Entry {
+    if check::same(name, b"two_powers") {
+        return Entry::TwoPowers;
+    }
+    if check::same(name, b"from_two_powers") {
+        return Entry::FromTwoPowers;
+    }
+    if check::same(name, b"read_line") {
+        return Entry::ReadLine;
+    }
+    if check::same(name, b"starts") {
+        return Entry::Starts;
+    }
+    if check::same(name, b"color_ranges") {
+        return Entry::ColorRanges;
+    }
+    if check::same(name, b"read_grid") {
+        return Entry::ReadGrid;
+    }
+    if check::same(name, b"transpose") {
+        return Entry::Transpose;
+    }
+    if check::same(name, b"puzzle") {
+        return Entry::Puzzle;
+    }
+    Entry::Unknown
+}

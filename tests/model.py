@@ -1,0 +1,490 @@
+#!/usr/bin/env python3
+"""A second statement of the calls, to hold the program `vectors` against.
+
+It is written from document 01 and its readings, and from neither the Rattle code nor its definitions. It aims at being short and plain, not at
+speed.
+
+    python3 tests/model.py < crates/vectors/stdin            prints what the program must print: this made crates/vectors/stdout
+    python3 tests/model.py --random SEED N                   prints N random cases; how many of each answer there are goes to standard error
+
+To hold the program against it on cases that nobody chose:
+
+    python3 tests/model.py --random 1 1000 > cases
+    target/bin/vectors < cases > got; python3 tests/model.py < cases | cmp - got
+
+A case is a line `ENTRY ROOM NUMBERS`: the buffer that is lent has ROOM words (bytes, for transpose), all of them 7. `N*M` stands for M times the
+number N, in a case and in an answer; an answer uses it from four times on. Lines that begin with # and empty lines are printed and no more. The answer
+to a case is ` NUMBER PLACE: BUFFER`, the whole buffer. Two entries answer otherwise. `from_two_powers` has no number and no place: its mask stands
+for the number. `puzzle` has no buffer (its ROOM counts for nothing): after an acceptance, with place 0, come width, height, the word of the
+height, the word of the cell count and K as a mask; then for each line, columns first, the word of its block count, its first variable, its number of
+positions p, its least space and the start of each of its blocks.
+"""
+import random
+import sys
+
+SEVEN = 7
+
+
+class Refused(Exception):
+    """A refusal: its number and its place."""
+
+    def __init__(self, number, place):
+        self.number, self.place = number, place
+
+
+# ---- bits
+
+def bits(mask):
+    return [k for k in range(32) if mask >> k & 1]
+
+
+def two_powers(mask):
+    return [2 ** k for k in bits(mask)]
+
+
+def from_two_powers(words):
+    mask = 0
+    for word in words:
+        mask |= word
+    return mask
+
+
+# ---- lines; a block is a pair of its size and its colour
+
+def runs(line):
+    """The maximal runs of one non-blank colour, in order."""
+    blocks = []
+    for i, color in enumerate(line):
+        if color == 0:
+            continue
+        if i > 0 and line[i - 1] == color:
+            blocks[-1] = (blocks[-1][0] + 1, color)
+        else:
+            blocks.append((1, color))
+    return blocks
+
+
+def starts_of(blocks):
+    starts = []
+    for i, (_, color) in enumerate(blocks):
+        if i == 0:
+            starts.append(0)
+        else:
+            size_before, color_before = blocks[i - 1]
+            starts.append(starts[-1] + size_before + (1 if color == color_before else 0))
+    return starts
+
+
+def least_space(blocks):
+    return starts_of(blocks)[-1] + blocks[-1][0] if blocks else 0
+
+
+def positions(length, blocks):
+    return length - least_space(blocks) + 1
+
+
+def geometry(length, blocks):
+    return [positions(length, blocks), least_space(blocks)] + starts_of(blocks)
+
+
+def read_line(line):
+    if not 1 <= len(line) <= 64:
+        raise Refused(2, 0)
+    for i, color in enumerate(line):
+        if color > 31:
+            raise Refused(18, i)
+    return [n for block in runs(line) for n in block]
+
+
+def clue_of(length, words):
+    """The blocks of the starts and ranges calls, after their refusals."""
+    if not 1 <= length <= 64:
+        raise Refused(2, 0)
+    if len(words) % 2 == 1:
+        raise Refused(1, len(words))
+    if len(words) // 2 > 64:
+        raise Refused(3, 0)
+    for i, word in enumerate(words):
+        if i % 2 == 0 and word == 0:
+            raise Refused(4, i)
+        if i % 2 == 1 and not 1 <= word <= 31:
+            raise Refused(5, i)
+    blocks = list(zip(words[0::2], words[1::2]))
+    if least_space(blocks) > length:
+        raise Refused(6, 0)
+    return blocks
+
+
+def starts(length, words):
+    return geometry(length, clue_of(length, words))
+
+
+def color_ranges(length, words):
+    blocks = clue_of(length, words)
+    p = positions(length, blocks)
+    out = []
+    for wanted in range(1, 32):
+        own = [(start, start + size) for start, (size, color) in zip(starts_of(blocks), blocks) if color == wanted]
+        out += [own[0][0], own[-1][1] + p - 1] if own else [0, 0]
+    return out
+
+
+# ---- puzzles
+
+class Words:
+    """Words that are read from the left."""
+
+    def __init__(self, words):
+        self.words, self.at = words, 0
+
+    def next(self):
+        """The next word and its place."""
+        if self.at == len(self.words):
+            raise Refused(1, len(self.words))
+        self.at += 1
+        return self.words[self.at - 1], self.at - 1
+
+    def lines(self):
+        """A section of columns or rows: the place of its count; each line's place and blocks."""
+        count, begin = self.next()
+        if not 1 <= count <= 64:
+            raise Refused(2, begin)
+        return begin, [self.line() for _ in range(count)]
+
+    def line(self):
+        count, begin = self.next()
+        if count > 64:
+            raise Refused(3, begin)
+        return begin, [self.block() for _ in range(count)]
+
+    def block(self):
+        size, place = self.next()
+        if size == 0:
+            raise Refused(4, place)
+        color, place = self.next()
+        if not 1 <= color <= 31:
+            raise Refused(5, place)
+        return size, color
+
+    def cells(self, area):
+        count, begin = self.next()
+        if count != area:
+            raise Refused(7, begin)
+        return begin, [self.mask() for _ in range(count)]
+
+    def mask(self):
+        mask, place = self.next()
+        if mask == 0:
+            raise Refused(8, place)
+        return mask
+
+
+def color_set(rows):
+    return {color for blocks in rows for _, color in blocks} or {1}
+
+
+def puzzle(words):
+    reader = Words(words)
+    _, columns = reader.lines()
+    rows_at, rows = reader.lines()
+    width, height = len(columns), len(rows)
+    cells_at, masks = reader.cells(width * height)
+    if reader.at < len(words):
+        raise Refused(11, reader.at)
+    lines = [(begin, blocks, height) for begin, blocks in columns] + [(begin, blocks, width) for begin, blocks in rows]
+    for l, (_, blocks, length) in enumerate(lines):
+        if least_space(blocks) > length:
+            raise Refused(6, l)
+    K = color_set([blocks for _, blocks in rows])
+    for x, (_, blocks) in enumerate(columns):
+        if any(color not in K for _, color in blocks):
+            raise Refused(9, x)
+    for i, mask in enumerate(masks):
+        if len(bits(mask)) == 1 and bits(mask)[0] != 0 and bits(mask)[0] not in K:
+            raise Refused(10, i)
+    out = [width, height, rows_at, cells_at, sum(2 ** color for color in K)]
+    variable = 1
+    for begin, blocks, length in lines:
+        out += [begin, variable] + geometry(length, blocks)
+        variable += len(blocks) * positions(length, blocks)
+    return out
+
+
+# ---- grids
+
+def check_sizes(width, height, grid):
+    if not 1 <= width <= 64:
+        raise Refused(2, 0)
+    if not 1 <= height <= 64:
+        raise Refused(2, 1)
+    if len(grid) != width * height:
+        raise Refused(7, len(grid))
+
+
+def columns_of(width, grid):
+    return [grid[x::width] for x in range(width)]
+
+
+def rows_of(width, grid):
+    return [grid[i:i + width] for i in range(0, len(grid), width)]
+
+
+def puzzle_words(columns, rows, masks):
+    out = []
+    for clues in (columns, rows):
+        out.append(len(clues))
+        for blocks in clues:
+            out.append(len(blocks))
+            out += [n for block in blocks for n in block]
+    return out + [len(masks)] + masks
+
+
+def read_grid(width, height, grid):
+    check_sizes(width, height, grid)
+    for i, color in enumerate(grid):
+        if color > 31:
+            raise Refused(18, i)
+    columns = [runs(line) for line in columns_of(width, grid)]
+    rows = [runs(line) for line in rows_of(width, grid)]
+    mask = 1 + sum(2 ** color for color in color_set(rows))
+    return puzzle_words(columns, rows, [mask] * len(grid))
+
+
+def transpose(width, height, grid):
+    check_sizes(width, height, grid)
+    return [cell for column in columns_of(width, grid) for cell in column]
+
+
+# ---- cases
+
+def lent(room, call):
+    """A call that writes what it accepts to the front of a buffer, or else says how long that should be."""
+    buffer = [SEVEN] * room
+    try:
+        out = call()
+        if len(out) > room:
+            raise Refused(12, len(out))
+    except Refused as why:
+        return why.number, why.place, buffer
+    return 0, len(out), out + buffer[len(out):]
+
+
+def answer(entry, room, args):
+    if entry == "from_two_powers":
+        return from_two_powers(args), 0, [SEVEN] * room
+    if entry == "puzzle":
+        try:
+            return 0, 0, puzzle(args)
+        except Refused as why:
+            return why.number, why.place, []
+    calls = {
+        "two_powers": lambda: two_powers(args[0]),
+        "read_line": lambda: read_line(args),
+        "starts": lambda: starts(args[0], args[1:]),
+        "color_ranges": lambda: color_ranges(args[0], args[1:]),
+        "read_grid": lambda: read_grid(args[0], args[1], args[2:]),
+        "transpose": lambda: transpose(args[0], args[1], args[2:]),
+    }
+    return lent(room, calls[entry])
+
+
+def numbers(text):
+    out = []
+    for word in text:
+        n, _, times = word.partition("*")
+        out += [int(n)] * (int(times) if times else 1)
+    return out
+
+
+def shown(words, least=4):
+    """Words as text, a run of `least` or more of them as `N*M`."""
+    out, i = [], 0
+    while i < len(words):
+        j = i
+        while j < len(words) and words[j] == words[i]:
+            j += 1
+        out += [f"{words[i]}*{j - i}"] if j - i >= least else [str(words[i])] * (j - i)
+        i = j
+    return "".join(" " + word for word in out)
+
+
+def answer_all(lines):
+    for line in lines:
+        print(line)
+        if line and not line.startswith("#"):
+            entry, *text = line.split(" ")
+            room, *args = numbers(text)
+            number, place, words = answer(entry, room, args)
+            print(f" {number} {place}:{shown(words)}")
+
+
+# ---- random cases
+
+ODD_WORDS = [0, 1, 2, 3, 30, 31, 32, 33, 63, 64, 65, 66, 2 ** 31, 2 ** 32 - 1]
+
+
+def random_size(r):
+    return r.choice([1, 1, 2, 2, 3, 3, 4, 5, 6, 7, r.randint(8, 20), r.choice([63, 64])])
+
+
+def random_colors(r):
+    return r.sample(range(1, 32), r.choice([0, 1, 1, 2, 3, 5]))
+
+
+def random_picture(r):
+    """Width, height and the cells of a picture, in a few colours; now and then the one whose puzzle has the most words, a chequered one of 64 by 64."""
+    if r.random() < 0.003:
+        a, b = r.sample(range(1, 32), 2)
+        return 64, 64, [a if (i // 64 + i) % 2 else b for i in range(64 * 64)]
+    width, height = random_size(r), random_size(r)
+    palette = [0] * r.randint(1, 3) + random_colors(r)
+    cells = []
+    for _ in range(width * height):
+        cells.append(cells[-1] if cells and r.random() < 0.4 else r.choice(palette))
+    return width, height, cells
+
+
+def random_mask(r, K):
+    kind = r.randrange(6)
+    if kind == 0:
+        return 1
+    if kind == 1:
+        return 2 ** r.choice(K)
+    if kind == 2:
+        return 1 + sum(2 ** color for color in K)
+    if kind == 3:
+        return 2 ** r.choice(K) | 2 ** r.randrange(32)
+    if kind == 4:
+        return r.choice([2 ** 31, 2 ** 32 - 1, 2 ** r.randrange(32)]) | 2 ** r.choice(K)
+    return r.randrange(1, 2 ** 32) | 2 ** r.choice(K)
+
+
+def random_clue(r, length, K):
+    """A clue that fits the line, whatever the lines that cross it say."""
+    blocks = []
+    while r.random() < 0.7:
+        more = blocks + [(r.randint(1, max(1, length // 2)), r.choice(K))]
+        if least_space(more) > length:
+            break
+        blocks = more
+    return blocks
+
+
+def random_puzzle(r):
+    """An accepted puzzle: columns, rows and masks."""
+    width, height, cells = random_picture(r)
+    if r.random() < 0.6:
+        columns = [runs(line) for line in columns_of(width, cells)]
+        rows = [runs(line) for line in rows_of(width, cells)]
+    else:
+        K = random_colors(r) or [1]
+        rows = [random_clue(r, width, K) for _ in range(height)]
+        columns = [random_clue(r, height, sorted(color_set(rows))) for _ in range(width)]
+    K = sorted(color_set(rows))
+    if r.random() < 0.3:
+        masks = [random_mask(r, K)] * (width * height)
+    else:
+        masks = [random_mask(r, K) for _ in range(width * height)]
+    return columns, rows, masks
+
+
+def misfit(r, columns, rows, masks):
+    """Words that the walk passes, most often with one of 6, 9 and 10."""
+    columns, rows, masks = [list(c) for c in columns], [list(c) for c in rows], list(masks)
+    for _ in range(r.choice([1, 1, 1, 2, 3])):
+        lines = r.choice([columns, rows])
+        i = r.randrange(len(lines))
+        kind = r.randrange(4)
+        if kind == 0 and lines[i]:
+            b = r.randrange(len(lines[i]))
+            lines[i][b] = (r.choice([1, 2, 3, 64, 65, 2 ** 32 - 1, 2 ** 31]), lines[i][b][1])
+        elif kind == 1 and lines[i]:
+            b = r.randrange(len(lines[i]))
+            lines[i][b] = (lines[i][b][0], r.randint(1, 31))
+        elif kind == 2:
+            lines[i].insert(r.randint(0, len(lines[i])), (1, r.randint(1, 31)))
+        else:
+            masks[r.randrange(len(masks))] = 2 ** r.randrange(32)
+    return columns, rows, masks
+
+
+def damaged(r, words):
+    """Words with some changed, dropped or added."""
+    words = list(words)
+    for _ in range(r.choice([1, 1, 1, 2, 3])):
+        kind = r.randrange(8)
+        at = r.choice([0, len(words) // 2, len(words) - 1, r.randrange(len(words))]) if words else 0
+        if kind == 0 and words:
+            del words[at]
+        elif kind == 1:
+            words.insert(at, r.choice(ODD_WORDS))
+        elif kind == 2 and words:
+            words = words[:at]
+        elif kind == 3:
+            words += [r.choice(ODD_WORDS)] * r.randint(1, 3)
+        elif kind == 4 and words:
+            words[at] = (words[at] + r.choice([-1, 1])) % 2 ** 32
+        elif kind == 5 and words:
+            words[at] = 0
+        elif words:
+            words[at] = r.choice(ODD_WORDS)
+    return words
+
+
+def random_puzzle_case(r):
+    parts = random_puzzle(r)
+    kind = r.randrange(8)
+    if kind >= 6:
+        parts = misfit(r, *parts)
+    words = puzzle_words(*parts)
+    if kind < 4:
+        words = damaged(r, words)
+    elif kind == 7 and r.random() < 0.3:
+        words.append(r.choice(ODD_WORDS))
+    return "puzzle", 0, words
+
+
+def random_grid_case(r, entry):
+    width, height, cells = random_picture(r)
+    if entry == "transpose":
+        cells = [r.choice([cell, r.randrange(256)]) for cell in cells]
+    kind = r.randrange(6)
+    if kind == 0:
+        for _ in range(r.randint(1, 3)):
+            cells[r.randrange(len(cells))] = r.choice([31, 32, 33, 64, 255])
+    if r.random() < 0.15:
+        width, height = r.choice([(height, width), (r.choice(ODD_WORDS), height), (width, r.choice(ODD_WORDS))])
+    if r.random() < 0.15:
+        cells = r.choice([cells[1:], cells + [r.randrange(40)], cells[:r.randrange(len(cells))]])
+    args = [width, height] + cells
+    _, needed, _ = answer(entry, 10 ** 6, args)
+    room = max(0, needed + r.choice([-1, 0, 0, 0, 1, 3])) if kind != 1 else r.randrange(4)
+    return entry, room, args
+
+
+def random_cases(seed, count):
+    r = random.Random(seed)
+    made, size = {}, 0
+    for _ in range(count):
+        kind = r.random()
+        entry, room, args = random_puzzle_case(r) if kind < 0.6 else random_grid_case(r, "read_grid" if kind < 0.85 else "transpose")
+        number, _, _ = answer(entry, room, args)
+        made[entry, number] = made.get((entry, number), 0) + 1
+        line = f"{entry} {room}{shown(args)}"
+        size += len(line) + 1
+        print(line)
+    print(f"{size} bytes; the program reads up to 1048576", file=sys.stderr)
+    for (entry, number), n in sorted(made.items()):
+        print(f"{entry} {number}: {n}", file=sys.stderr)
+
+
+def main():
+    if len(sys.argv) == 4 and sys.argv[1] == "--random":
+        random_cases(int(sys.argv[2]), int(sys.argv[3]))
+    elif len(sys.argv) == 1:
+        answer_all(sys.stdin.read().splitlines())
+    else:
+        sys.exit(__doc__)
+
+
+main()
