@@ -1,5 +1,5 @@
 /* Holds every answer of the C entries against expectations from elsewhere: small lines and clues by trying every line
- * there is, the rest by hand. Ends at the first wrong answer, with status 1. */
+ * there is, grids cell by cell, the rest by hand. Ends at the first wrong answer, with status 1. */
 #include "haafgrim.h"
 #include <stdio.h>
 #include <stdlib.h>
@@ -8,88 +8,132 @@
 #define COUNT(array) (sizeof(array) / sizeof *(array))
 #define WORDS(...) COUNT(((uint32_t[]){__VA_ARGS__})), {__VA_ARGS__}
 
-enum { PAD = 4, ROOM = 132, RANGES = 62 };
-enum entry { TWO_POWERS, FROM_TWO_POWERS, READ_LINE, STARTS, COLOR_RANGES };
-static const char *const names[] = {"two_powers", "from_two_powers", "read_line", "starts", "color_ranges"};
+/* The words of a grid are at most MOST; SPARE are lent beyond. LONGEST is a little more than a grid of 65 by 65 bytes. */
+enum { PAD = 4, ROOM = 132, RANGES = 62, CELLS = 64 * 64, MOST = 20611, SPARE = 40, LONGEST = 4300 };
+enum entry { TWO_POWERS, FROM_TWO_POWERS, READ_LINE, STARTS, COLOR_RANGES, READ_GRID, TRANSPOSE };
+static const char *const names[] = {"two_powers", "from_two_powers", "read_line", "starts", "color_ranges", "read_grid",
+                                    "transpose"};
 
-/* `scalar` is the mask of two_powers and the line length of a clue. */
-struct call { enum entry entry; size_t scalar; const void *in; size_t in_len; };
+/* `sizes` are the mask of two_powers, the line length of a clue, or the width and the height of a grid. */
+struct call { enum entry entry; size_t sizes[2]; const void *in; size_t in_len; };
 
-/* The answer where the lent buffer is long enough: a refusal and its place, or the words written. */
+/* The answer where the lent buffer is long enough: a refusal and its place, or the elements written. */
+struct answer { uint32_t number; size_t place; size_t count; const void *out; };
+
+/* An answer of few words, with the words. */
 struct want { uint32_t number; size_t place; size_t count; uint32_t words[ROOM]; };
 
-/* The answer and all memory that a call is shown, with words around what it is lent. */
-struct world { size_t number; size_t place[3]; uint32_t in[ROOM]; uint32_t out[PAD + ROOM + PAD]; };
-_Static_assert(sizeof(struct world) == 4 * sizeof(size_t) + 4 * (ROOM + PAD + ROOM + PAD), "memcmp compares no gaps");
+/* The answer and all memory that a call is shown, with words around what it is lent. Only the first words are in use. */
+struct world {
+    size_t number, place[3], in_used, out_used;
+    uint32_t in[LONGEST / 4 + PAD], out[PAD + MOST + SPARE + PAD];
+};
+
+/* Some of these are right in fewer bits, or have a right product. */
+static const size_t wrong_sizes[] = {0, 65, 66, 257, (size_t)UINT32_MAX + 2, SIZE_MAX / 2 + 2, SIZE_MAX - 63, SIZE_MAX};
 
 static unsigned long checks;
 
-/* What lies behind the input is no colour, so that reading it would show. */
-static void prepare(struct world *w, const struct call *c) {
-    w->number = 0;
-    memset(w->in, 0x55, sizeof w->in);
-    if (c->in_len != 0)
-        memcpy(w->in, c->in, c->entry == READ_LINE ? c->in_len : c->in_len * sizeof(uint32_t));
-    w->place[0] = w->place[1] = w->place[2] = 7000;
-    for (uint32_t i = 0; i < COUNT(w->out); i++)
-        w->out[i] = 0xA5000000u + i;
+static size_t in_bytes(const struct call *c) {
+    return c->entry == READ_LINE || c->entry == READ_GRID || c->entry == TRANSPOSE ? c->in_len : c->in_len * sizeof(uint32_t);
 }
 
-static void foresee(struct world *w, const struct want *x, size_t out_len) {
+static size_t out_bytes(const struct call *c, size_t count) {
+    return c->entry == TRANSPOSE ? count : count * sizeof(uint32_t);
+}
+
+/* The words that are in use for so many bytes. */
+static size_t words_for(size_t bytes) {
+    size_t words = (bytes + sizeof(uint32_t) - 1) / sizeof(uint32_t);
+    return words < ROOM ? ROOM : words;
+}
+
+/* What lies behind the input is no colour, so that reading it would show. */
+static void prepare(struct world *w, const struct call *c, size_t out_len) {
+    w->number = 0;
+    w->in_used = words_for(in_bytes(c)) + PAD;
+    w->out_used = PAD + words_for(out_bytes(c, out_len)) + PAD;
+    memset(w->in, 0x55, w->in_used * sizeof *w->in);
+    if (c->in_len != 0)
+        memcpy(w->in, c->in, in_bytes(c));
+    w->place[0] = w->place[1] = w->place[2] = 7000;
+    for (uint32_t i = 0; i < w->out_used; i++)
+        w->out[i] = 0xA5C39600u + i;
+}
+
+static void foresee(struct world *w, const struct call *c, const struct answer *x, size_t out_len) {
     w->number = x->number != 0 ? x->number : out_len < x->count ? 12 : 0;
     w->place[1] = x->number != 0 ? x->place : x->count;
-    if (w->number == 0)
-        memcpy(w->out + PAD, x->words, x->count * sizeof(uint32_t));
+    if (w->number == 0 && x->count != 0)
+        memcpy(w->out + PAD, x->out, out_bytes(c, x->count));
 }
 
 /* With `nulls`, a slice of length 0 is a null pointer. */
 static uint32_t perform(struct world *w, const struct call *c, size_t out_len, int nulls) {
     uint32_t *out = nulls && out_len == 0 ? NULL : w->out + PAD;
     const uint32_t *in = nulls && c->in_len == 0 ? NULL : w->in;
+    const uint8_t *bytes = (const uint8_t *)in;
+    const size_t *sizes = c->sizes;
     size_t *place = &w->place[1];
     switch (c->entry) {
-    case TWO_POWERS: return haafgrim_two_powers((uint32_t)c->scalar, out, out_len, place);
+    case TWO_POWERS: return haafgrim_two_powers((uint32_t)sizes[0], out, out_len, place);
     case FROM_TWO_POWERS: *place = 0; return haafgrim_from_two_powers(in, c->in_len);
-    case READ_LINE: return haafgrim_read_line((const uint8_t *)in, c->in_len, out, out_len, place);
-    case STARTS: return haafgrim_starts(c->scalar, in, c->in_len, out, out_len, place);
-    default: return haafgrim_color_ranges(c->scalar, in, c->in_len, out, out_len, place);
+    case READ_LINE: return haafgrim_read_line(bytes, c->in_len, out, out_len, place);
+    case STARTS: return haafgrim_starts(sizes[0], in, c->in_len, out, out_len, place);
+    case COLOR_RANGES: return haafgrim_color_ranges(sizes[0], in, c->in_len, out, out_len, place);
+    case READ_GRID: return haafgrim_read_grid(sizes[0], sizes[1], bytes, c->in_len, out, out_len, place);
+    default: return haafgrim_transpose(sizes[0], sizes[1], bytes, c->in_len, (uint8_t *)out, out_len, place);
     }
 }
 
+static int same(const struct world *a, const struct world *b) {
+    return a->number == b->number && memcmp(a->place, b->place, sizeof a->place) == 0
+        && memcmp(a->in, b->in, a->in_used * sizeof *a->in) == 0
+        && memcmp(a->out, b->out, a->out_used * sizeof *a->out) == 0;
+}
+
 static void fail(const struct call *c, size_t out_len, const struct world *want, const struct world *got) {
-    printf("wrong: %s, mask or length %zu, lent %zu words, input of %zu:", names[c->entry], c->scalar, out_len, c->in_len);
+    printf("wrong: %s, mask, length or width %zu, height %zu, lent %zu, input of %zu:", names[c->entry],
+           c->sizes[0], c->sizes[1], out_len, c->in_len);
     for (size_t i = 0; i < c->in_len; i++)
-        printf(" %u", c->entry == READ_LINE ? ((const uint8_t *)c->in)[i] : ((const uint32_t *)c->in)[i]);
+        printf(" %u", in_bytes(c) == c->in_len ? ((const uint8_t *)c->in)[i] : ((const uint32_t *)c->in)[i]);
     printf("\nwanted %zu at %zu, got %zu at %zu\n", want->number, want->place[1], got->number, got->place[1]);
-    for (size_t i = 0; i < COUNT(got->out); i++)
-        if (want->out[i] != got->out[i])
-            printf("word %d of the buffer: wanted %u, got %u\n", (int)i - PAD, want->out[i], got->out[i]);
-    if (memcmp(want->in, got->in, sizeof got->in) != 0)
+    for (size_t i = 0, shown = 0; i < got->out_used; i++)
+        if (want->out[i] != got->out[i] && shown++ < 20)
+            printf("word %d of the buffer: wanted %#x, got %#x\n", (int)i - PAD, want->out[i], got->out[i]);
+    if (memcmp(want->in, got->in, got->in_used * sizeof *got->in) != 0)
         printf("the input was changed\n");
     if (want->place[0] != got->place[0] || want->place[2] != got->place[2])
         printf("what lies around the place was changed\n");
     exit(1);
 }
 
-static void check_once(struct call c, const struct want *x, size_t out_len, int nulls) {
-    struct world want, got;
-    prepare(&want, &c);
-    got = want;
-    foresee(&want, x, out_len);
+static void check_once(struct call c, struct answer x, size_t out_len, int nulls) {
+    static struct world want, got;
+    prepare(&want, &c, out_len);
+    prepare(&got, &c, out_len);
+    foresee(&want, &c, &x, out_len);
     got.number = perform(&got, &c, out_len, nulls);
     checks++;
-    if (memcmp(&want, &got, sizeof got) != 0)
+    if (!same(&want, &got))
         fail(&c, out_len, &want, &got);
+}
+
+static void check_lent(struct call c, struct answer x, size_t out_len) {
+    check_once(c, x, out_len, 0);
+    if (out_len == 0 || (c.in != NULL && c.in_len == 0))
+        check_once(c, x, out_len, 1);
+}
+
+static struct answer answer_of(const struct want *x) {
+    return (struct answer){x->number, x->place, x->count, x->words};
 }
 
 /* With every length of the lent buffer: up to one more than needed, or all where the call is refused. */
 static void check(struct call c, const struct want *x) {
     size_t most = x->number != 0 ? ROOM : x->count + 1;
-    for (size_t out_len = 0; out_len <= most; out_len++) {
-        check_once(c, x, out_len, 0);
-        if (out_len == 0 || (c.in != NULL && c.in_len == 0))
-            check_once(c, x, out_len, 1);
-    }
+    for (size_t out_len = 0; out_len <= most; out_len++)
+        check_lent(c, answer_of(x), out_len);
 }
 
 static void push(struct want *x, uint32_t word) {
@@ -130,7 +174,7 @@ static void check_line(const uint8_t *line, size_t n, uint32_t number, size_t pl
     uint32_t begins[64];
     if (number == 0)
         read_naively(line, n, &x, begins);
-    check((struct call){READ_LINE, 0, line, n}, &x);
+    check((struct call){READ_LINE, {0}, line, n}, &x);
 }
 
 /* The line numbered `code` of all lines of n cells over 0, 1, 2. */
@@ -157,7 +201,7 @@ static void long_lines(void) {
         push(&turns, 1);
         push(&turns, line[i] = 1 + i % 2);
     }
-    check((struct call){READ_LINE, 0, line, 64}, &turns);
+    check((struct call){READ_LINE, {0}, line, 64}, &turns);
     for (int round = 0; round < 300; round++) {
         for (size_t i = 0; i < 64; i++)
             line[i] = random_word() % (round % 3 == 0 ? 32 : 3);
@@ -186,8 +230,8 @@ static void refused_lines(void) {
 /* ---- Clues, by trying every line ---- */
 
 static void check_clue(size_t n, const uint32_t *clue, size_t words, const struct want *starts, const struct want *ranges) {
-    check((struct call){STARTS, n, clue, words}, starts);
-    check((struct call){COLOR_RANGES, n, clue, words}, ranges);
+    check((struct call){STARTS, {n}, clue, words}, starts);
+    check((struct call){COLOR_RANGES, {n}, clue, words}, ranges);
 }
 
 static void check_refused(size_t n, const uint32_t *clue, size_t words, uint32_t number, size_t place) {
@@ -275,7 +319,7 @@ static void by_hand(void) {
         {64, WORDS(3, 9, 40, 2, 5, 9), {17, 48, 0, 3, 43}, {{9, 0, 64}, {2, 3, 59}}},
     };
     struct want p1 = {.count = 4, .words = {2, 1, 1, 2}};
-    check((struct call){READ_LINE, 0, (const uint8_t[]){0, 0, 1, 1, 0, 2}, 6}, &p1);
+    check((struct call){READ_LINE, {0}, (const uint8_t[]){0, 0, 1, 1, 0, 2}, 6}, &p1);
     for (size_t i = 0; i < COUNT(rows); i++) {
         struct want starts = {.count = 2 + rows[i].words / 2}, ranges = {.count = RANGES};
         memcpy(starts.words, rows[i].starts, sizeof rows[i].starts);
@@ -338,10 +382,9 @@ static void refused_rows(void) {
 
 /* First a wrong length, then an odd number of words, then too many blocks, whatever the words are. */
 static void refused_sizes(const uint32_t *clue) {
-    static const size_t lengths[] = {0, 65, 66, 257, (size_t)UINT32_MAX + 2, SIZE_MAX / 2 + 2, SIZE_MAX - 63, SIZE_MAX};
     for (size_t words = 0; words <= ROOM; words++) {
-        for (size_t i = 0; i < COUNT(lengths); i++)
-            check_refused(lengths[i], clue, words, 2, 0);
+        for (size_t i = 0; i < COUNT(wrong_sizes); i++)
+            check_refused(wrong_sizes[i], clue, words, 2, 0);
         if (words % 2 == 1)
             check_refused(64, clue, words, 1, words);
         else if (words > 128)
@@ -385,7 +428,7 @@ static void check_join(const uint32_t *words, size_t n) {
                 break;
             }
     for (int nulls = 0; nulls <= (n == 0); nulls++)
-        check_once((struct call){FROM_TWO_POWERS, 0, words, n}, &x, 0, nulls);
+        check_once((struct call){FROM_TWO_POWERS, {0}, words, n}, answer_of(&x), 0, nulls);
 }
 
 static void check_mask(uint32_t mask) {
@@ -393,7 +436,7 @@ static void check_mask(uint32_t mask) {
     for (size_t k = 0; k < 32; k++)
         if (has_bit(mask, k))
             push(&x, power(2, k));
-    check((struct call){TWO_POWERS, mask, NULL, 0}, &x);
+    check((struct call){TWO_POWERS, {mask}, NULL, 0}, &x);
     check_join(x.words, x.count);
 }
 
@@ -418,6 +461,260 @@ static void joins(void) {
     }
 }
 
+/* ---- Grids ---- */
+
+/* Every length of the lent buffer where few are needed; else none, too few, just enough and more. */
+static void check_grid_call(enum entry entry, size_t width, size_t height, const uint8_t *cells, size_t n, struct answer x) {
+    size_t need = x.number != 0 ? MOST : x.count;
+    const size_t some[] = {0, 1, need / 2, need - 1, need, need + 1, need + SPARE};
+    struct call c = {entry, {width, height}, cells, n};
+    for (size_t i = 0; need <= ROOM / 2 && i <= need + PAD; i++)
+        check_lent(c, x, i);
+    for (size_t i = 0; need > ROOM / 2 && i < COUNT(some); i++)
+        check_lent(c, x, some[i]);
+}
+
+/* The number of blocks of a line, and its blocks. Answers how many words these are. */
+static size_t clue_naively(const uint8_t *line, size_t n, uint32_t *words) {
+    uint32_t begins[64];
+    struct want runs = {0};
+    read_naively(line, n, &runs, begins);
+    words[0] = (uint32_t)runs.count / 2;
+    memcpy(words + 1, runs.words, runs.count * sizeof *words);
+    return 1 + runs.count;
+}
+
+/* A colour is in the rows where some cell has it. */
+static uint32_t mask_naively(const uint8_t *cells, size_t n) {
+    uint32_t mask = 1;
+    for (int k = 1; k <= 31; k++)
+        if (memchr(cells, k, n) != NULL)
+            mask += power(2, (size_t)k);
+    return mask == 1 ? 3 : mask;
+}
+
+static size_t puzzle_naively(size_t width, size_t height, const uint8_t *cells, uint32_t *words) {
+    uint32_t mask = mask_naively(cells, width * height);
+    size_t n = 0;
+    words[n++] = (uint32_t)width;
+    for (size_t x = 0; x < width; x++) {
+        uint8_t column[64];
+        for (size_t y = 0; y < height; y++)
+            column[y] = cells[y * width + x];
+        n += clue_naively(column, height, words + n);
+    }
+    words[n++] = (uint32_t)height;
+    for (size_t y = 0; y < height; y++)
+        n += clue_naively(cells + y * width, width, words + n);
+    words[n++] = (uint32_t)(width * height);
+    for (size_t i = 0; i < width * height; i++)
+        words[n++] = mask;
+    return n;
+}
+
+/* The cell in column x of row y is in column y of row x; and the answer itself, transposed, is the grid. */
+static void check_turned(size_t width, size_t height, const uint8_t *cells) {
+    uint8_t turned[CELLS], got[CELLS];
+    size_t n = width * height, place;
+    for (size_t i = 0; i < n; i++)
+        turned[i % width * height + i / width] = cells[i];
+    check_grid_call(TRANSPOSE, width, height, cells, n, (struct answer){0, 0, n, turned});
+    haafgrim_transpose(width, height, cells, n, got, n, &place);
+    check_grid_call(TRANSPOSE, height, width, got, n, (struct answer){0, 0, n, cells});
+}
+
+/* How many words a section of clues has, with its count. */
+static size_t section_length(const uint32_t *words) {
+    size_t n = 1;
+    for (uint32_t line = 0; line < words[0]; line++)
+        n += 1 + 2 * words[n];
+    return n;
+}
+
+/* The transposed grid has the columns' clues as its rows', the rows' as its columns', and the same masks: the entries' own
+ * answers against each other. */
+static void check_read_turned(size_t width, size_t height, const uint8_t *cells, size_t need) {
+    static uint32_t words[MOST], swapped[MOST];
+    uint8_t turned[CELLS];
+    size_t n = width * height, place, columns, rows;
+    haafgrim_transpose(width, height, cells, n, turned, n, &place);
+    haafgrim_read_grid(width, height, cells, n, words, need, &place);
+    columns = section_length(words);
+    rows = section_length(words + columns);
+    memcpy(swapped, words + columns, rows * sizeof *words);
+    memcpy(swapped + rows, words, columns * sizeof *words);
+    memcpy(swapped + rows + columns, words + columns + rows, (need - columns - rows) * sizeof *words);
+    check_grid_call(READ_GRID, height, width, turned, n, (struct answer){0, 0, need, swapped});
+}
+
+static void check_grid(size_t width, size_t height, const uint8_t *cells) {
+    static uint32_t words[MOST];
+    size_t need = puzzle_naively(width, height, cells, words);
+    check_grid_call(READ_GRID, width, height, cells, width * height, (struct answer){0, 0, need, words});
+    check_turned(width, height, cells);
+    check_read_turned(width, height, cells, need);
+}
+
+/* The grids of P8, P10, P11 and P12, P1 as a grid of one row, and one with more colours. */
+static void grids_by_hand(void) {
+    static const struct { size_t width, height; uint8_t cells[6]; size_t count; uint32_t words[40]; } rows[] = {
+        {1, 1, {1}, WORDS(1, 1, 1, 1, 1, 1, 1, 1, 1, 3)},
+        {2, 1, {1, 0}, WORDS(2, 1, 1, 1, 0, 1, 1, 1, 1, 2, 3, 3)},
+        {2, 2, {1, 0, 0, 1}, WORDS(2, 1, 1, 1, 1, 1, 1, 2, 1, 1, 1, 1, 1, 1, 4, 3, 3, 3, 3)},
+        {1, 1, {0}, WORDS(1, 0, 1, 0, 1, 3)},
+        {6, 1, {0, 0, 1, 1, 0, 2}, WORDS(6, 0, 0, 1, 1, 1, 1, 1, 1, 0, 1, 1, 2, 1, 2, 2, 1, 1, 2, 6, 7, 7, 7, 7, 7, 7)},
+        {3, 2, {5, 5, 31, 0, 5, 5}, WORDS(3, 1, 1, 5, 1, 2, 5, 2, 1, 31, 1, 5, 2, 2, 2, 5, 1, 31, 1, 2, 5, 6,
+            0x80000021, 0x80000021, 0x80000021, 0x80000021, 0x80000021, 0x80000021)},
+    };
+    for (size_t i = 0; i < COUNT(rows); i++)
+        check_grid_call(READ_GRID, rows[i].width, rows[i].height, rows[i].cells, rows[i].width * rows[i].height,
+                        (struct answer){0, 0, rows[i].count, rows[i].words});
+    check_grid_call(TRANSPOSE, 3, 2, rows[5].cells, 6, (struct answer){0, 0, 6, (const uint8_t[]){5, 0, 5, 5, 31, 5}});
+}
+
+static void small_grids(void) {
+    uint8_t cells[9];
+    for (size_t width = 1; width <= 3; width++)
+        for (size_t height = 1; height <= 3; height++)
+            for (uint32_t code = 0; code < power(3, width * height); code++) {
+                small_line(cells, width * height, code);
+                check_grid(width, height, cells);
+            }
+}
+
+/* Single cells of two colours in turn: no grid has more words. */
+static void chessboard(void) {
+    static uint32_t words[MOST];
+    uint8_t cells[CELLS];
+    size_t n = 0;
+    for (uint32_t direction = 0; direction < 2; direction++) {
+        words[n++] = 64;
+        for (uint32_t line = 0; line < 64; line++) {
+            words[n++] = 64;
+            for (uint32_t i = 0; i < 64; i++) {
+                words[n++] = 1;
+                words[n++] = cells[64 * line + i] = 1 + (line + i) % 2;
+            }
+        }
+    }
+    words[n++] = CELLS;
+    while (n < MOST)
+        words[n++] = 7;
+    check_grid_call(READ_GRID, 64, 64, cells, CELLS, (struct answer){0, 0, n, words});
+    check_grid(64, 64, cells);
+}
+
+/* Blank, of one colour, and striped either way: each line across the stripes has a run a cell. */
+static void plain_grids(void) {
+    static const size_t sizes[][2] = {{64, 64}, {64, 1}, {1, 64}, {63, 64}, {64, 2}, {5, 63}};
+    uint8_t cells[CELLS];
+    for (size_t s = 0; s < COUNT(sizes); s++) {
+        size_t width = sizes[s][0], height = sizes[s][1];
+        for (int color = 0; color <= 31; color++)
+            check_grid(width, height, memset(cells, color, CELLS));
+        for (size_t colors = 2; colors <= 31; colors += 29)
+            for (int upright = 0; upright < 2; upright++) {
+                for (size_t i = 0; i < width * height; i++)
+                    cells[i] = (uint8_t)(1 + (upright ? i % width : i / width) % colors);
+                check_grid(width, height, cells);
+            }
+    }
+    chessboard();
+}
+
+/* Cells at random; in three of four grids many are as the cell before or above, so that runs are longer. */
+static void random_cells(uint8_t *cells, size_t width, size_t height, uint32_t colors) {
+    uint32_t copied = random_word() % 4;
+    for (size_t i = 0; i < width * height; i++) {
+        size_t back = random_word() % 2 == 0 ? 1 : width;
+        cells[i] = i >= back && random_word() % 4 < copied ? cells[i - back] : (uint8_t)(random_word() % (colors + 1));
+    }
+}
+
+/* Each size up to 64 by 64 once, and some often. */
+static void random_grids(void) {
+    static const uint32_t colors[] = {1, 4, 31};
+    uint8_t cells[CELLS];
+    for (size_t round = 0; round < CELLS + 600; round++) {
+        size_t any = round < CELLS ? round : random_word() % CELLS, width = 1 + any % 64, height = 1 + any / 64;
+        random_cells(cells, width, height, colors[round % 3]);
+        check_grid(width, height, cells);
+    }
+}
+
+static void turned_grids(void) {
+    uint8_t cells[CELLS];
+    for (size_t width = 1; width <= 64; width++)
+        for (size_t height = 1; height <= 64; height++) {
+            for (size_t i = 0; i < width * height; i++)
+                cells[i] = (uint8_t)(random_word() >> 7);
+            check_turned(width, height, cells);
+        }
+}
+
+/* ---- Refused grids ---- */
+
+static void check_refused_grid(size_t width, size_t height, const uint8_t *cells, size_t n, uint32_t number, size_t place) {
+    check_grid_call(READ_GRID, width, height, cells, n, (struct answer){number, place, 0, NULL});
+    if (number != 18)
+        check_grid_call(TRANSPOSE, width, height, cells, n, (struct answer){number, place, 0, NULL});
+    else
+        check_turned(width, height, cells);
+}
+
+/* With any length and any cells; where both sizes are wrong, the width comes first. */
+static void refused_grid_sizes(void) {
+    static const size_t right_sizes[] = {1, 2, 64}, lengths[] = {0, 1, 2, 64, 65, 128, CELLS, 65 * 64, 65 * 65};
+    uint8_t cells[LONGEST];
+    for (size_t i = 0; i < COUNT(wrong_sizes) * COUNT(lengths); i++) {
+        size_t wrong = wrong_sizes[i % COUNT(wrong_sizes)], n = lengths[i / COUNT(wrong_sizes)];
+        for (int byte = 0; byte <= 255; byte += 255) {
+            memset(cells, byte, sizeof cells);
+            for (size_t s = 0; s < COUNT(wrong_sizes); s++)
+                check_refused_grid(wrong, wrong_sizes[s], cells, n, 2, 0);
+            for (size_t s = 0; s < COUNT(right_sizes); s++) {
+                check_refused_grid(wrong, right_sizes[s], cells, n, 2, 0);
+                check_refused_grid(right_sizes[s], wrong, cells, n, 2, 1);
+            }
+        }
+    }
+}
+
+/* Shorter and longer grids, also where a cell is no colour. */
+static void refused_grid_lengths(void) {
+    static const size_t sizes[] = {1, 2, 3, 8, 31, 63, 64};
+    uint8_t cells[LONGEST];
+    for (size_t i = 0; i < COUNT(sizes) * COUNT(sizes); i++) {
+        size_t width = sizes[i % COUNT(sizes)], height = sizes[i / COUNT(sizes)], n = width * height;
+        const size_t lengths[] = {0, 1, n / 2, n - width, n - height, n - 1, n + 1, n + width, n + height, CELLS, LONGEST};
+        for (int byte = 0; byte <= 255; byte += 255)
+            for (size_t k = 0; k < COUNT(lengths); k++)
+                if (lengths[k] != n)
+                    check_refused_grid(width, height, memset(cells, byte, LONGEST), lengths[k], 7, lengths[k]);
+    }
+}
+
+/* A byte over 31 at each place (every 13th of a large grid), alone and with others behind it, some in earlier columns. */
+static void refused_grid_cells(void) {
+    static const size_t sizes[][3] = {{1, 1, 1}, {1, 64, 1}, {64, 1, 1}, {2, 2, 1}, {3, 2, 1}, {8, 9, 1}, {64, 64, 13}};
+    uint8_t cells[CELLS];
+    for (size_t s = 0; s < COUNT(sizes); s++) {
+        size_t width = sizes[s][0], height = sizes[s][1], n = width * height;
+        for (size_t at = 0; at < n; at += sizes[s][2]) {
+            random_cells(cells, width, height, 31);
+            cells[at] = at % 2 == 0 ? 32 : 255;
+            check_refused_grid(width, height, cells, n, 18, at);
+            cells[at + random_word() % (n - at)] = 64;
+            cells[n - 1] = 255;
+            check_refused_grid(width, height, cells, n, 18, at);
+            memset(cells + at, 33, n - at);
+            check_refused_grid(width, height, cells, n, 18, at);
+        }
+    }
+    for (unsigned byte = 32; byte <= 255; byte++)
+        check_refused_grid(2, 3, (const uint8_t[]){0, 31, 1, (uint8_t)byte, 32, 0}, 6, 18, 3);
+}
+
 static void group(const char *name, void (*tests)(void)) {
     unsigned long before = checks;
     tests();
@@ -435,6 +732,14 @@ int main(void) {
     group("refused lengths, counts and long clues", refused_long);
     group("masks", masks);
     group("joined words", joins);
+    group("grids by hand", grids_by_hand);
+    group("grids up to 3 by 3", small_grids);
+    group("plain and striped grids", plain_grids);
+    group("random grids", random_grids);
+    group("transposed bytes", turned_grids);
+    group("refused widths and heights", refused_grid_sizes);
+    group("refused grid lengths", refused_grid_lengths);
+    group("refused cells", refused_grid_cells);
     printf("entries: %lu checks, 0 wrong\n", checks);
     return 0;
 }
