@@ -1,8 +1,8 @@
 #!/usr/bin/env python3
 """A second statement of the calls, to hold the program `vectors` against.
 
-It is written from document 01 and its readings, and from neither the Rattle code nor its definitions. It aims at being short and plain, not at
-speed.
+It is written from document 01 and its readings, by someone who had seen the definitions in `specs/`: a second writing, not a blind one. It aims at being
+short and plain, not at speed.
 
     python3 tests/model.py < crates/vectors/stdin            prints what the program must print: this made crates/vectors/stdout
     python3 tests/model.py --random SEED N                   prints N random cases; how many of each answer there are goes to standard error

@@ -1,14 +1,14 @@
--- Which bits are set: by halving, beyond a number's width, after an or, in joined words, in a power of two, with one bit more.
+-- Which bits are set: by halving, beyond a number's width, after an or and an and, in joined words, in a power of two, with one bit more.
 use mathlib.Core.Path.{_≡_, refl, sym, _∙_}
-use mathlib.Core.Bool.{Bool, true, false, cond, _||_, or-false, or-true, false≢true}
+use mathlib.Core.Bool.{Bool, true, false, cond, _&&_, _||_, or-false, or-true, false≢true}
 use mathlib.Core.List.{List, [], _∷_, foldl}
 use mathlib.Core.Logic.{_⊎_, inl, inr}
-use Prim.Native.Nat.{ℕ, zero, suc, _/_, _%_, _^_, _<_, max}
+use Prim.Native.Nat.{ℕ, zero, suc, _/_, _%_, _^_, _<_, min, max}
 use native.Mathlib.Omega.{arith}
 use native.Mathlib.Numerals.{one-add}
-use native.Mathlib.Nat.{div-eq-of-lt, div-one, zero-max, pow-suc}
+use native.Mathlib.Nat.{div-eq-of-lt, div-one, zero-max, zero-min, pow-suc}
 use native.Mathlib.Decide.{ℕ-discrete, decLt}
-use lib.Bits.{bitOr, or-step, or-shr, or-lt}
+use lib.Bits.{bitAnd, bitOr, and-step, and-shr, or-step, or-shr, or-lt}
 use lib.Dec.{eqb, ltb, eqb·zero-suc, eqb·suc-zero, eqb·suc-suc}
 use lib.Pow.{pow-pos, pow-lt, shr-shr}
 use borrow.Author.Tests.{lt-ltb, le-ltb, eq-eqb, ne-eqb}
@@ -42,6 +42,23 @@ bit-or a b k =
     let q = b / 2 ^ k in
     let low : bitOr p q % 2 ≡ max (p % 2) (q % 2) = omega (arith, or-step p q) in
     rw (or-shr a b k, low) (either (p % 2) (q % 2) (omega arith) (omega arith))
+
+-- ---- and an and those that both have
+
+min-bits : (p q : ℕ) → p < 2 → q < 2 → eqb (min p q) 1 ≡ (eqb p 1 && eqb q 1)
+min-bits zero q hp hq = rw zero-min
+min-bits (suc zero) zero hp hq = refl
+min-bits (suc zero) (suc zero) hp hq = refl
+min-bits (suc zero) (suc (suc q)) hp hq = absurd (omega arith)
+min-bits (suc (suc p)) q hp hq = absurd (omega arith)
+
+pub bit-and : (a b k : ℕ) → bit (bitAnd a b) k ≡ (bit a k && bit b k)
+unfolding bit
+bit-and a b k =
+    let p = a / 2 ^ k in
+    let q = b / 2 ^ k in
+    let low : bitAnd p q % 2 ≡ min (p % 2) (q % 2) = omega (arith, and-step p q) in
+    rw (and-shr a b k, low) (min-bits (p % 2) (q % 2) (omega arith) (omega arith))
 
 -- bit k of the joined words is set exactly when some word's is
 pub joined-bit : (words : List ℕ) (k : ℕ) → bit (joined words) k ≡ foldl (λ before word. before || bit word k) false words

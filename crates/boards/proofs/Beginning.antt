@@ -1,12 +1,12 @@
 -- Where the clues of the lines begin among the words, and what stands there.
 use mathlib.Core.Path.{_≡_, refl, sym, ap, _∙_}
-use mathlib.Core.Bool.{true, false, cond}
+use mathlib.Core.Bool.{cond}
 use mathlib.Core.List.{List, [], _∷_, _++_, append-assoc}
 use Prim.Native.Nat.{ℕ, zero, suc, _+_, _-_, _*_, _≤_, _<_}
 use native.Mathlib.Omega.{arith}
 use native.Mathlib.Nat.{add-zero, add-assoc}
 use native.Mathlib.Decide.{ℕ-discrete, decLt}
-use lib.Dec.{eqb, ltb}
+use lib.Dec.{eqb}
 use lib.ListN.{length, take, drop, getD, length-append, length-drop}
 use lib.Seq.{take-at, drop-at, drop-drop, take-append-le, take-append-add, take-suc, getD-drop, take-all}
 use borrow.Author.Tests.{lt-ltb, le-ltb, eq-eqb, ne-eqb}
@@ -97,14 +97,6 @@ module _ (z : Puzzle) where
   ]
 
   -- ---- and the next begins behind it
-
-  pub begin-first : beginAt z 0 ≤ 2
-  unfolding beginAt cluesWords
-  begin-first = go (ltb 0 (width z))
-    where
-      go : (b : _) → cond b 1 2 + 0 ≤ 2
-      go true = omega arith
-      go false = omega arith
 
   clues-next : (l : ℕ) → l < lines z → length (cluesWords (take (l + 1) (z .columns ++ z .rows))) ≡ length (cluesWords (take l (z .columns ++ z .rows))) + (1 + 2 * length (clueAt z l))
   unfolding clueAt cluesWords

@@ -1,7 +1,7 @@
 -- The colour set, as the loops gather it and look into it.
 use mathlib.Core.Path.{_≡_, refl, sym, ap, _∙_}
-use mathlib.Core.Bool.{Bool, true, false, cond}
-use mathlib.Core.List.{List, [], _∷_}
+use mathlib.Core.Bool.{true, false}
+use mathlib.Core.List.{List, []}
 use Prim.Native.Nat.{ℕ, _+_, _-_, _^_, _≤_, _<_}
 use native.Mathlib.Omega.{arith}
 use lib.Bits.{bitAnd, bitOr}
@@ -12,8 +12,7 @@ use borrow.Author.Tests.{eq-eqb, ne-eqb}
 use Rattle.lists.proofs.Dropping.{drop-one}
 use Rattle.bits.specs.Bits.{bit, withBit}
 use Rattle.bits.proofs.LowestFirst.{powers-count}
-use Rattle.bits.proofs.SetBits.{with-within}
-use Rattle.lines.specs.Clue.{Block, words, blocks}
+use Rattle.lines.specs.Clue.{words, blocks}
 use Rattle.lines.proofs.ClueWords.{blocks-next, blocks-done, blocks-words}
 use Rattle.puzzles.specs.Puzzle.{Puzzle, width, height, clueAt}
 use Rattle.puzzles.specs.Colors.{withColors, withLines, colorSet, known, solved, offSolved}
@@ -104,23 +103,3 @@ module _ (K mask : ℕ) (small : mask < 2 ^ 32) where
 
 pub known-found : (K : ℕ) (z : Puzzle) (l : ℕ) → l < width z → {clue : List ℕ} → clue ≡ words (clueAt z l) → known K (blocks clue) ≡ known K (getD (z .columns) l [])
 known-found K z l h e = rw (e, blocks-words (clueAt z l), clue-column z l h)
-
--- ---- the colour set is a word
-
-colors-within : (mask : ℕ) (bs : List Block) → mask < 2 ^ 32 → withColors mask bs < 2 ^ 32
-unfolding withColors
-colors-within mask [] h = h
-colors-within mask (b ∷ bs) h = colors-within (withBit mask (b .color)) bs (with-within mask (b .color) h)
-
-lines-within : (mask : ℕ) (ls : List (List Block)) → mask < 2 ^ 32 → withLines mask ls < 2 ^ 32
-unfolding withLines
-lines-within mask [] h = h
-lines-within mask (bs ∷ ls) h = lines-within (withColors mask bs) ls (colors-within mask bs h)
-
-pub colors-small : (rows : List (List Block)) → colorSet rows < 2 ^ 32
-unfolding colorSet
-colors-small rows = picked (eqb (withLines 0 rows) 0)
-  where
-    picked : (b : Bool) → cond b 2 (withLines 0 rows) < 2 ^ 32
-    picked true = omega arith
-    picked false = lines-within 0 rows (omega arith)

@@ -13,7 +13,7 @@ use Rattle.puzzles.specs.Puzzle.{Puzzle, lines, clueAt, lengthAt}
 use Rattle.puzzles.specs.Checks.{puzzle, Sectioned}
 use Rattle.boards.specs.Table.{beginAt, firstAt, positionsAt, lineWords, LineLaid, Laid}
 use Rattle.boards.proofs.Beginning.{Here}
-use Rattle.boards.proofs.Laying.{line-size, line-here, line-fine}
+use Rattle.boards.proofs.Laying.{line-size, line-here}
 
 module _ (z : Puzzle) (table : List ℕ) (l : ℕ) (L : LineLaid z table l) where
   laid-word : (i : ℕ) → i < length (lineWords z l) → getD table (68 * l + i) 0 ≡ getD (lineWords z l) i 0
@@ -48,9 +48,6 @@ module _ (ws : List ℕ) (S : Sectioned ws) (table : List ℕ) (L : Laid (puzzle
 
   pub found : Here ws from (clueAt (puzzle ws) l)
   found = rw from-is (line-here ws S l h)
-
-  pub found-few : length (clueAt (puzzle ws) l) ≤ 64
-  found-few = line-fine ws S l h .few
 
   pub found-within : from + 1 + 2 * getD ws from 0 ≤ length ws
   found-within = omega (arith, found .count-is, found .within)

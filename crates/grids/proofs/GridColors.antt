@@ -1,61 +1,29 @@
 -- The colours of a grid: those of its cells are those of its rows' blocks, so that one walk over the cells finds the mask.
-use mathlib.Core.Path.{_≡_, refl, sym, ap, subst, _∙_}
+use mathlib.Core.Path.{_≡_, sym, ap, subst, _∙_}
 use mathlib.Core.Bool.{true}
-use mathlib.Core.List.{List, [], _∷_, foldl}
+use mathlib.Core.List.{List, [], foldl}
 use mathlib.Core.Logic.{⊎-elim}
 use Prim.Native.Nat.{ℕ, _+_, _*_, _/_, _%_, _<_}
 use native.Mathlib.Omega.{arith}
 use native.Mathlib.Nat.{mul-comm, div-add-mod', mod-lt, div-lt-iff-lt-mul}
 use native.Mathlib.Decide.{ℕ-discrete, decLt}
 use lib.ListN.{length, getD}
-use borrow.Author.Tests.{eq-eqb, ne-eqb, eqb-true}
+use borrow.Author.Tests.{eqb-true}
 use Rattle.lists.proofs.Eaches.{length-tab, getD-tab}
 use Rattle.bits.specs.Bits.{bit, withBit}
 use Rattle.bits.proofs.SetBits.{bit-power, bit-some, with-same, with-zero, with-keeps, with-cases, with-within}
 use Rattle.bits.proofs.LowestFirst.{same-bits}
 use Rattle.bits.proofs.Collecting.{Collects, Some, collects-bit, collects-all}
-use Rattle.lines.specs.Clue.{Block}
 use Rattle.lines.specs.Line.{runs}
 use Rattle.lines.proofs.Reading.{runs-proper}
 use Rattle.lines.proofs.Coloring.{Named, Seen, named-seen, seen-named}
-use Rattle.puzzles.specs.Colors.{withColors, withLines, colorSet}
+use Rattle.puzzles.specs.Colors.{withLines, colorSet}
+use Rattle.puzzles.proofs.ColorSets.{ofBlocks, lines-collect, set-none, set-some}
 use Rattle.grids.specs.Grid.{row, column, rowClues}
 use Rattle.grids.specs.Sized.{Sized}
 use Rattle.grids.specs.Mask.{cellColors, cellsMask}
 use Rattle.grids.proofs.Cells.{row-length, row-cell, column-length, column-cell, place-in}
 use Rattle.grids.proofs.CellMasks.{mask-blank, mask-colors}
-
--- ---- the colours of clues
-
-abbrev colorOf : Block → ℕ → Type 0
-colorOf b c = b .color ≡ c
-
-abbrev ofBlocks : List Block → ℕ → Type 0
-ofBlocks bs c = Some (record { size = 0; color = 0 }) colorOf bs c
-
-colors-folded : (mask : ℕ) (bs : List Block) → foldl (λ mask b. withBit mask (b .color)) mask bs ≡ withColors mask bs
-unfolding withColors
-colors-folded mask [] = refl
-colors-folded mask (b ∷ bs) = colors-folded (withBit mask (b .color)) bs
-
-blocks-collect : Collects withColors ofBlocks
-blocks-collect = subst (λ f. Collects f ofBlocks) (λ i mask bs. colors-folded mask bs i) (collects-all (collects-bit (λ b. b .color)) _)
-
-lines-folded : (mask : ℕ) (ls : List (List Block)) → foldl withColors mask ls ≡ withLines mask ls
-unfolding withLines
-lines-folded mask [] = refl
-lines-folded mask (bs ∷ ls) = lines-folded (withColors mask bs) ls
-
-lines-collect : Collects withLines (Some [] ofBlocks)
-lines-collect = subst (λ f. Collects f (Some [] ofBlocks)) (λ i mask ls. lines-folded mask ls i) (collects-all blocks-collect [])
-
-set-none : (rows : List (List Block)) → withLines 0 rows ≡ 0 → colorSet rows ≡ 2
-unfolding colorSet
-set-none rows e = rw (eq-eqb (withLines 0 rows) 0 e)
-
-set-some : (rows : List (List Block)) → (withLines 0 rows ≡ 0 → ⊥) → colorSet rows ≡ withLines 0 rows
-unfolding colorSet
-set-some rows n = rw (ne-eqb (withLines 0 rows) 0 n)
 
 -- ---- the colours of cells
 

@@ -4,10 +4,9 @@ use mathlib.Core.Bool.{true, false}
 use mathlib.Core.List.{List, [], _∷_}
 use Prim.Native.Nat.{ℕ, suc, _+_, _/_, _%_, _≤_, _<_}
 use native.Mathlib.Omega.{arith}
-use lib.ListN.{length, drop, getD, drop-of-length-le}
+use lib.ListN.{length, getD}
 use lib.Dec.{eqb, ltb}
 use borrow.Author.Tests.{eq-eqb, ne-eqb, lt-ltb, le-ltb, ltb-false}
-use Rattle.lists.proofs.Dropping.{drop-one}
 use Rattle.lists.proofs.Tests.{neither}
 use Rattle.refusals.specs.Verdict.{accepted, refused, refuse}
 use Rattle.refusals.specs.Told.{told}

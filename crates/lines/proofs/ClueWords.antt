@@ -5,7 +5,7 @@ use mathlib.Core.List.{List, [], _∷_}
 use Prim.Native.Nat.{ℕ, suc, _+_, _-_, _*_, _/_, _≤_, _<_}
 use native.Mathlib.Nat.{not-suc-le-zero, le-of-suc-le-suc}
 use native.Mathlib.Omega.{arith}
-use lib.ListN.{length, drop, getD, set, length-drop, List·getD-map}
+use lib.ListN.{length, drop, getD, set, length-drop}
 use borrow.Author.Tests.{eq-eqb, ne-eqb}
 use Rattle.lists.specs.Wrote.{Wrote}
 use Rattle.lists.proofs.Dropping.{drop-two}
@@ -14,6 +14,7 @@ use Rattle.refusals.specs.Verdict.{accepted, refused}
 use Rattle.lines.specs.Clue.{Block, words, blocks, gap, packedFrom, packed, starts, lastEnd, minSpace, positions}
 use Rattle.lines.specs.Arrangement.{at}
 use Rattle.lines.specs.Calls.{offColor, blockChecks, startsWords}
+use Rattle.lines.proofs.Packing.{starts-at}
 
 -- a list of fewer than two words holds no block
 short : {A : Type 0} (f : List ℕ → A) (a : A) → f [] ≡ a → ((x : ℕ) → f (x ∷ []) ≡ a) → (l : List ℕ) (i : ℕ) → length l ≤ i + 1 → f (drop i l) ≡ a
@@ -168,7 +169,7 @@ module _ (n : ℕ) (bs : List Block) where
   unfolding startsWords
   starts-start b =
       let e : 2 + b ≡ suc (suc b) = omega arith in
-      rw (blocks-words bs, e) (List·getD-map (λ r. r .start) (packed gap bs) b (record { start = 0; size = 0; color = 0 }))
+      rw (blocks-words bs, e) (starts-at gap bs b)
 
 -- with no block there is one position more than cells, and never more
 pub positions-bound : (n : ℕ) (bs : List Block) → positions gap n bs ≤ n + 1

@@ -75,9 +75,6 @@ module _ (g : ℕ → ℕ → ℕ) where
     packed-color b = ap (λ x. x .color) (packed-at b)
 
     -- the starts as a list
-    pub starts-length : length (starts (packed g bs)) ≡ length bs
-    starts-length = length-map (packed g bs) _ ∙ packed-length
-
     pub starts-at : (b : ℕ) → getD (starts (packed g bs)) b 0 ≡ at (packed g bs) b .start
     starts-at b = List·getD-map (λ r. r .start) (packed g bs) b _
 

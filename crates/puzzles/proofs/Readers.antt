@@ -61,9 +61,6 @@ module _ {A : Type 0} (d : A) {f : ℕ → List ℕ → Walk A} {W : A → List 
   times-back (suc n) i (a ∷ l) us e =
       rw (some a l, append-assoc, R .back i a (all l ++ us) (e .1 0 (omega arith)), times-back n (i + length (W a)) l us (omega (arith, e .0), λ k h. e .1 (suc k) (omega arith)), length-append, add-assoc)
 
-  pub times-reader : (n : ℕ) → Reader (times n f) all (λ l. (length l ≡ n) × Each d Fine l)
-  times-reader n = record { only = times-only n; back = times-back n }
-
   -- ---- after their count
 
   counted-only : (off : ℕ → Bool) (k i : ℕ) (ws : List ℕ) (l : List A) (j : ℕ) (us : List ℕ) → counted off k f i ws ≡ got l j us

@@ -67,9 +67,6 @@ module _ {A : Type 0} where
       pub passing-low : at + i ≤ j
       passing-low = passed (read .value) (read .left) (read .got-is) .0
 
-      pub passing-high : j ≤ at + length part
-      passing-high = passed (read .value) (read .left) (read .got-is) .1
-
       pub passing-next : l < n → Passing f n at part (l + 1) (j - at)
       unfolding times
       passing-next h =

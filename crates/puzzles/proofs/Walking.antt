@@ -51,7 +51,3 @@ module _ {A B : Type 0} where
   pub next-refused : (w : Walk A) (f : A → ℕ → List ℕ → Walk B) {k p : ℕ} → outcome w ≡ refused k p → outcome (next w f) ≡ refused k p
   next-refused (got a i ws) f e = let z : _≡_ {A = ℕ} 0 1 = cc in absurd (omega arith)
   next-refused (stop k p) f e = e
-
-  pub next-outcome : (w : Walk A) (f : A → ℕ → List ℕ → Walk B) (g : ℕ → List ℕ → Walk B) → ((a : A) (i : ℕ) (ws : List ℕ) → outcome (f a i ws) ≡ outcome (g i ws))
-      → {a : A} {j : ℕ} {us : List ℕ} → w ≡ got a j us → outcome (next w f) ≡ outcome (g j us)
-  next-outcome w f g h {a} {j} {us} e = rw e (h a j us)

@@ -1,4 +1,4 @@
-use Rattle.boards.proofs.Coloring.{colors-small}
+use Rattle.puzzles.proofs.ColorSets.{set-within}
 use Rattle.puzzles.proofs.Accepting.{accepted-is}
 use Rattle.puzzles.specs.Checks as C
 use Rattle.refusals.specs.Told.{told}
@@ -19,7 +19,7 @@ read-puzzle-spec =
     (λ c κs. search needs)
     (λ c. search needs)
     (λ c. search needs)
-    (λ c. omega (arith, accepted-is _ (checked-is c) .colors-are, colors-small (C.puzzle (c .before .before .before .before .before .before .before .before .before .args .words .now) .rows)))
+    (λ c. omega (arith, accepted-is _ (checked-is c) .colors-are, set-within (C.puzzle (c .before .before .before .before .before .before .before .before .before .args .words .now) .rows)))
     (λ c κs. (checked-is (c .before), (c .before .before .before .before .before .before .check-puzzle .ensures .1 _ (ap told (c .before .before .checked2 .given .1)), omega (arith, c .before .before .before .before .before .before .before .before .before .before .pre, c .before .before .before .before .before .before .check-puzzle .kept .1 .0))))
     (λ c. search needs)
     (λ c. ap told (sym (c .before .checked .given .1)) ∙ c .before .before .before .before .before .check-puzzle .ensures .0)
