@@ -45,10 +45,10 @@ fn check_meaning(words: &[u32], width: usize, height: usize, table: &mut [u32]) 
     };
     let colors = row_colors(words, width, height, table);
     let columns = check_columns(words, width, colors, table);
+    let solved = check_cells(&words[cells + 1..], colors);
     let Answer::Accepted(_) = columns else {
         return columns;
     };
-    let solved = check_cells(&words[cells + 1..], colors);
     let Answer::Accepted(_) = solved else {
         return solved;
     };
