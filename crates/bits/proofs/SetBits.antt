@@ -6,7 +6,7 @@ use mathlib.Core.Logic.{_⊎_, inl, inr}
 use Prim.Native.Nat.{ℕ, zero, suc, _/_, _%_, _^_, _<_, min, max}
 use native.Mathlib.Omega.{arith}
 use native.Mathlib.Numerals.{one-add}
-use native.Mathlib.Nat.{div-eq-of-lt, div-one, zero-max, zero-min, pow-suc}
+use native.Mathlib.Nat.{div-eq-of-lt, div-one, pow-suc}
 use native.Mathlib.Decide.{ℕ-discrete, decLt}
 use lib.Bits.{bitAnd, bitOr, and-step, and-shr, or-step, or-shr, or-lt}
 use lib.Dec.{eqb, ltb, eqb·zero-suc, eqb·suc-zero, eqb·suc-suc}
@@ -26,39 +26,35 @@ pub bit-beyond : (x k : ℕ) → x < 2 ^ k → bit x k ≡ false
 unfolding bit
 bit-beyond x k h = rw (div-eq-of-lt h)
 
--- ---- an or sets the bits of both
+-- ---- an or sets the bits of both, and an and those that both have
 
-either : (p q : ℕ) → p < 2 → q < 2 → eqb (max p q) 1 ≡ (eqb p 1 || eqb q 1)
-either zero q hp hq = rw zero-max
-either (suc zero) zero hp hq = refl
-either (suc zero) (suc zero) hp hq = refl
-either (suc zero) (suc (suc q)) hp hq = absurd (omega arith)
-either (suc (suc p)) q hp hq = absurd (omega arith)
+-- an operation on digits, by its table
+digits : (f : ℕ → ℕ → ℕ) (g : Bool → Bool → Bool) → eqb (f 0 0) 1 ≡ g false false → eqb (f 0 1) 1 ≡ g false true → eqb (f 1 0) 1 ≡ g true false → eqb (f 1 1) 1 ≡ g true true
+    → (p q : ℕ) → p < 2 → q < 2 → eqb (f p q) 1 ≡ g (eqb p 1) (eqb q 1)
+digits f g a b c d zero zero hp hq = a
+digits f g a b c d zero (suc zero) hp hq = b
+digits f g a b c d (suc zero) zero hp hq = c
+digits f g a b c d (suc zero) (suc zero) hp hq = d
+digits f g a b c d zero (suc (suc q)) hp hq = absurd (omega arith)
+digits f g a b c d (suc zero) (suc (suc q)) hp hq = absurd (omega arith)
+digits f g a b c d (suc (suc p)) q hp hq = absurd (omega arith)
 
-pub bit-or : (a b k : ℕ) → bit (bitOr a b) k ≡ (bit a k || bit b k)
-unfolding bit
-bit-or a b k =
-    let p = a / 2 ^ k in
-    let q = b / 2 ^ k in
-    let low : bitOr p q % 2 ≡ max (p % 2) (q % 2) = omega (arith, or-step p q) in
-    rw (or-shr a b k, low) (either (p % 2) (q % 2) (omega arith) (omega arith))
+module _ (a b k : ℕ) where
+  pub bit-or : bit (bitOr a b) k ≡ (bit a k || bit b k)
+  unfolding bit
+  bit-or =
+      let p = a / 2 ^ k in
+      let q = b / 2 ^ k in
+      let low : bitOr p q % 2 ≡ max (p % 2) (q % 2) = omega (arith, or-step p q) in
+      rw (or-shr a b k, low) (digits max _||_ refl refl refl refl (p % 2) (q % 2) (omega arith) (omega arith))
 
--- ---- and an and those that both have
-
-min-bits : (p q : ℕ) → p < 2 → q < 2 → eqb (min p q) 1 ≡ (eqb p 1 && eqb q 1)
-min-bits zero q hp hq = rw zero-min
-min-bits (suc zero) zero hp hq = refl
-min-bits (suc zero) (suc zero) hp hq = refl
-min-bits (suc zero) (suc (suc q)) hp hq = absurd (omega arith)
-min-bits (suc (suc p)) q hp hq = absurd (omega arith)
-
-pub bit-and : (a b k : ℕ) → bit (bitAnd a b) k ≡ (bit a k && bit b k)
-unfolding bit
-bit-and a b k =
-    let p = a / 2 ^ k in
-    let q = b / 2 ^ k in
-    let low : bitAnd p q % 2 ≡ min (p % 2) (q % 2) = omega (arith, and-step p q) in
-    rw (and-shr a b k, low) (min-bits (p % 2) (q % 2) (omega arith) (omega arith))
+  pub bit-and : bit (bitAnd a b) k ≡ (bit a k && bit b k)
+  unfolding bit
+  bit-and =
+      let p = a / 2 ^ k in
+      let q = b / 2 ^ k in
+      let low : bitAnd p q % 2 ≡ min (p % 2) (q % 2) = omega (arith, and-step p q) in
+      rw (and-shr a b k, low) (digits min _&&_ refl refl refl refl (p % 2) (q % 2) (omega arith) (omega arith))
 
 -- bit k of the joined words is set exactly when some word's is
 pub joined-bit : (words : List ℕ) (k : ℕ) → bit (joined words) k ≡ foldl (λ before word. before || bit word k) false words

@@ -14,14 +14,9 @@ use Rattle.lines.specs.Clue.{Block, words}
 use Rattle.lines.proofs.ClueWords.{words-length}
 use Rattle.puzzles.specs.Puzzle.{Puzzle, width, height, lines, clueWords, cluesWords, linesWords, cellsWords, puzzleWords, rowsAt, cellsAt, clueAt}
 use Rattle.boards.specs.Table.{beginAt}
-use Rattle.puzzles.proofs.Lines.{clue-column, clue-row}
+use Rattle.puzzles.proofs.Lines.{clues-append, clue-column, clue-row}
 
 -- ---- clues one after another
-
-clues-append : (a b : List (List Block)) → cluesWords (a ++ b) ≡ cluesWords a ++ cluesWords b
-unfolding cluesWords
-clues-append [] b = refl
-clues-append (bs ∷ a) b = rw (clues-append a b, append-assoc)
 
 clue-size : (bs : List Block) → length (clueWords bs) ≡ 1 + 2 * length bs
 unfolding clueWords

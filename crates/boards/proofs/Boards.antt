@@ -10,12 +10,12 @@ use lib.ListN.{length, take, drop, getD, length-append, length-drop}
 use lib.Seq.{drop-at, drop-drop, getD-append-add}
 use borrow.Author.Tests.{ne-eqb}
 use Rattle.lists.proofs.Writing.{tail-is}
-use Rattle.refusals.specs.Verdict.{Verdict, accepted, refused, number, place, andThen}
+use Rattle.refusals.specs.Verdict.{Verdict, accepted, refused, andThen}
 use Rattle.refusals.specs.Told.{refusal, told}
 use Rattle.refusals.specs.declared.Refusal.{Refusal}
 use Rattle.refusals.specs.declared.Answer.{Answer}
 use Rattle.refusals.specs.declared.Answer.the-variants.{Refused}
-use Rattle.refusals.proofs.Answering.{refusal-is, handed-up, first-accepted, then-accepted}
+use Rattle.refusals.proofs.Answering.{refused-told, handed-up, first-accepted, then-accepted}
 use Rattle.puzzles.specs.Puzzle.{Puzzle, width, height, lines, linesWords, cellsWords, puzzleWords, rowsAt, cellsAt}
 use Rattle.puzzles.specs.Walk.{readPuzzle}
 use Rattle.puzzles.specs.Checks.{colors, spaceChecks, columnChecks, solvedChecks, spaces, meaningChecks, sectionsOf, puzzle, puzzleChecks, Sectioned}
@@ -108,7 +108,7 @@ pub spaces-off : (z : Puzzle) (n : ℕ) {a : Answer} {why : Refusal} → a ≡ R
 unfolding spaces meaningChecks
 spaces-off z n {a} {why} r e =
     let v = andThen (columnChecks (colors z) (z .columns)) (andThen (solvedChecks (colors z) (z .masks)) (accepted (colors z))) in
-    let t : told a ≡ refused (number (refusal why)) (place (refusal why)) = ap told r ∙ refusal-is why in
+    let t = refused-told r in
     let rows = spaceChecks (width z) (width z) (z .rows) in
     t
     ∙ then-refused (spaceChecks (height z) 0 (z .columns)) (andThen rows (accepted n)) (andThen rows v) (sym t ∙ e)

@@ -1,14 +1,13 @@
 -- The puzzle of an accepted grid is good, so what `read_grid` writes is accepted as a puzzle.
 use mathlib.Core.Path.{_≡_, refl, sym, ap, ap₂, subst, _∙_}
 use mathlib.Core.Bool.{true, false, and-false}
-use mathlib.Core.List.{List, [], _++_}
+use mathlib.Core.List.{List, []}
 use Prim.Native.Nat.{ℕ, _+_, _-_, _*_, _≤_, _<_}
 use native.Mathlib.Omega.{arith}
 use native.Mathlib.Decide.{decLt}
 use lib.Bits.{and-self}
-use lib.ListN.{length, getD, List·getD-append}
-use lib.Seq.{getD-append-add}
-use borrow.Author.Tests.{lt-ltb, le-ltb, ne-eqb}
+use lib.ListN.{length, getD}
+use borrow.Author.Tests.{ne-eqb}
 use Rattle.lists.proofs.Eaches.{length-tab, getD-tab}
 use Rattle.refusals.specs.Verdict.{accepted}
 use Rattle.bits.specs.Bits.{bit, withBit}
@@ -22,8 +21,9 @@ use Rattle.puzzles.specs.Puzzle.{width, height, lines, clueAt, lengthAt}
 use Rattle.puzzles.specs.Colors.{solved, offSolved}
 use Rattle.puzzles.specs.Checks.{colors, puzzleChecks, puzzle}
 use Rattle.puzzles.specs.Good.{Good}
+use Rattle.puzzles.proofs.Lines.{clue-column, clue-row, length-column, length-row}
 use Rattle.puzzles.proofs.Accepting.{good-accepted, good-read}
-use Rattle.grids.specs.Grid.{row, column, rowClues, columnClues, gridPuzzle, gridChecks, gridWords}
+use Rattle.grids.specs.Grid.{row, column, columnClues, gridPuzzle, gridChecks, gridWords}
 use Rattle.grids.specs.Sized.{Sized}
 use Rattle.grids.proofs.Cells.{row-length, column-length}
 use Rattle.grids.proofs.Checking.{grid-sized, grid-bytes}
@@ -51,22 +51,18 @@ module _ (w h : ℕ) (grid : List ℕ) where
   -- ---- the clues
 
   column-at : (l : ℕ) → l < w → clueAt (gridPuzzle w h grid) l ≡ runs (column w h grid l)
-  unfolding gridPuzzle clueAt
-  column-at l i = List·getD-append (columnClues w h grid) (rowClues w h grid) [] l (omega (arith, columns-length)) ∙ columns-at l i
+  unfolding gridPuzzle
+  column-at l i = clue-column (gridPuzzle w h grid) l (omega (arith, columns-length)) ∙ columns-at l i
 
   column-long : (l : ℕ) → l < w → lengthAt (gridPuzzle w h grid) l ≡ h
-  unfolding lengthAt
-  column-long l i = rw (lt-ltb l (width (gridPuzzle w h grid)) (omega (arith, width-is))) height-is
+  column-long l i = length-column (gridPuzzle w h grid) l (omega (arith, width-is)) ∙ height-is
 
   row-at : (y : ℕ) → y < h → clueAt (gridPuzzle w h grid) (w + y) ≡ runs (row w grid y)
-  unfolding gridPuzzle clueAt
-  row-at y j =
-      ap (λ (n : ℕ). getD (columnClues w h grid ++ rowClues w h grid) (n + y) []) (sym columns-length)
-      ∙ getD-append-add (columnClues w h grid) (rowClues w h grid) y [] ∙ rows-at w h grid y j
+  unfolding gridPuzzle
+  row-at y j = ap (λ (n : ℕ). clueAt (gridPuzzle w h grid) (n + y)) (sym width-is) ∙ clue-row (gridPuzzle w h grid) y ∙ rows-at w h grid y j
 
   row-long : (y : ℕ) → lengthAt (gridPuzzle w h grid) (w + y) ≡ w
-  unfolding lengthAt
-  row-long y = rw (le-ltb (w + y) (width (gridPuzzle w h grid)) (omega (arith, width-is))) width-is
+  row-long y = ap (λ (n : ℕ). lengthAt (gridPuzzle w h grid) (n + y)) (sym width-is) ∙ length-row (gridPuzzle w h grid) y ∙ width-is
 
 -- the cells of line l
 record Line (w h : ℕ) (grid : List ℕ) (l : ℕ) : Type 0 where

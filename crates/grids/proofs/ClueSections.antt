@@ -1,6 +1,6 @@
 -- The words of a section of clues, line by line.
 use mathlib.Core.Path.{_≡_, refl, ap, ap₂}
-use mathlib.Core.List.{List, [], _∷_, _++_, append-assoc, append-nil}
+use mathlib.Core.List.{List, [], _∷_, append-nil}
 use Prim.Native.Nat.{ℕ, zero, suc, _+_, _-_, _*_, _/_, _≤_, _<_}
 use native.Mathlib.Omega.{arith}
 use native.Mathlib.Numerals.{add-one}
@@ -17,6 +17,7 @@ use Rattle.lines.specs.Line.{runs}
 use Rattle.lines.specs.Calls.{lineWords}
 use Rattle.lines.proofs.Coloring.{line-words, line-words-length, runs-few}
 use Rattle.puzzles.specs.Puzzle.{clueWords, cluesWords, linesWords}
+use Rattle.puzzles.proofs.Lines.{clues-append}
 use Rattle.grids.specs.Grid.{row, rowClues}
 use Rattle.grids.specs.Sized.{Lined}
 use Rattle.grids.proofs.Cells.{row-length}
@@ -49,11 +50,6 @@ module _ (line out : List ℕ) (at : ℕ) (r : at + length (clueWords (runs line
       rw (clue-is line, e) (wrote-ahead out at (length (runs line)) (omega (arith, clue-length line)) (wrote-tail w))
 
 -- ---- a section
-
-clues-append : (a b : List (List Block)) → cluesWords (a ++ b) ≡ cluesWords a ++ cluesWords b
-unfolding cluesWords
-clues-append [] b = refl
-clues-append (bs ∷ a) b = rw (clues-append a b, append-assoc)
 
 clues-tab : (n : ℕ) (f : ℕ → List Block) → cluesWords (tab n f) ≡ each n (λ i. clueWords (f i))
 unfolding tab each cluesWords

@@ -8,12 +8,12 @@ use lib.ListN.{length, take, drop, getD, length-append, length-drop}
 use lib.Seq.{drop-at, drop-drop, getD-drop}
 use borrow.Author.Tests.{lt-ltb, le-ltb}
 use Rattle.lists.proofs.Writing.{tail-is}
-use Rattle.refusals.specs.Verdict.{accepted, refused, number, place}
-use Rattle.refusals.specs.Told.{refusal, told}
+use Rattle.refusals.specs.Verdict.{accepted, refused, place}
+use Rattle.refusals.specs.Told.{told}
 use Rattle.refusals.specs.declared.Refusal.{Refusal}
 use Rattle.refusals.specs.declared.Answer.{Answer}
 use Rattle.refusals.specs.declared.Answer.the-variants.{Accepted, Refused}
-use Rattle.refusals.proofs.Answering.{refusal-is}
+use Rattle.refusals.proofs.Answering.{refused-told}
 use Rattle.lines.proofs.Checks.{size-within}
 use Rattle.puzzles.specs.Puzzle.{linesWords, cellsWords, rowsAt}
 use Rattle.puzzles.specs.Walk.{Walk, got, stop, outcome, readLines, readCells, readPuzzle}
@@ -64,19 +64,15 @@ count-is words i j S =
 
 -- ---- the check, by the way that it goes
 
-module _ {a : Answer} {why : Refusal} (r : a ≡ Refused why) where
-  refused-is : told a ≡ refused (number (refusal why)) (place (refusal why))
-  refused-is = ap told r ∙ refusal-is why
-
 module _ (words : List ℕ) where
   pub columns-refused : {a : Answer} {why : Refusal} → a ≡ Refused why → told a ≡ outcome (readLines 0 words) → told a ≡ sectionsOf (readPuzzle words)
   unfolding readPuzzle sectionsOf
-  columns-refused r e = refused-is r ∙ rw (stopped (readLines 0 words) (sym e ∙ refused-is r))
+  columns-refused r e = refused-told r ∙ rw (stopped (readLines 0 words) (sym e ∙ refused-told r))
 
   module _ {rows : ℕ} (C : Lines words 0 rows) where
     pub rows-refused : {a : Answer} {why : Refusal} → a ≡ Refused why → told a ≡ outcome (readLines rows (take (length words - rows) (drop rows words))) → told a ≡ sectionsOf (readPuzzle words)
     unfolding readPuzzle sectionsOf
-    rows-refused r e = refused-is r ∙ rw (C .got-is, stopped (readLines rows (drop rows words)) (sym (rw (tail-is words rows) at e) ∙ refused-is r))
+    rows-refused r e = refused-told r ∙ rw (C .got-is, stopped (readLines rows (drop rows words)) (sym (rw (tail-is words rows) at e) ∙ refused-told r))
 
     module _ {cells : ℕ} (R : Lines words rows cells) {w h : ℕ} (we : w ≡ getD words 0 0) (he : h ≡ getD words rows 0) where
       area-is : w * h ≡ length (C .value) * length (R .value)
@@ -84,7 +80,7 @@ module _ (words : List ℕ) where
 
       pub cells-refused : {a : Answer} {why : Refusal} → a ≡ Refused why → told a ≡ outcome (readCells (w * h) cells (take (length words - cells) (drop cells words))) → told a ≡ sectionsOf (readPuzzle words)
       unfolding readPuzzle sectionsOf
-      cells-refused r e = refused-is r ∙ rw (C .got-is, R .got-is, ← area-is, stopped (readCells (w * h) cells (drop cells words)) (sym (rw (tail-is words cells) at e) ∙ refused-is r))
+      cells-refused r e = refused-told r ∙ rw (C .got-is, R .got-is, ← area-is, stopped (readCells (w * h) cells (drop cells words)) (sym (rw (tail-is words cells) at e) ∙ refused-told r))
 
       module _ {end : ℕ} (M : Cells (w * h) words cells end) where
         pub left-over : end < length words → refused 11 end ≡ sectionsOf (readPuzzle words)

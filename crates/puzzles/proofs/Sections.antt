@@ -9,12 +9,12 @@ use lib.ListN.{length, take, drop, getD, length-append, length-drop}
 use lib.Seq.{drop-at, drop-drop, getD-drop}
 use borrow.Author.Tests.{eq-eqb, ne-eqb}
 use Rattle.lists.proofs.Writing.{tail-is}
-use Rattle.refusals.specs.Verdict.{Verdict, accepted, refused, number, place}
-use Rattle.refusals.specs.Told.{refusal, told}
+use Rattle.refusals.specs.Verdict.{Verdict, accepted, refused}
+use Rattle.refusals.specs.Told.{told}
 use Rattle.refusals.specs.declared.Refusal.{Refusal}
 use Rattle.refusals.specs.declared.Answer.{Answer}
 use Rattle.refusals.specs.declared.Answer.the-variants.{Accepted, Refused}
-use Rattle.refusals.proofs.Answering.{refusal-is}
+use Rattle.refusals.proofs.Answering.{refused-told}
 use Rattle.lines.specs.Calls.{offColor}
 use Rattle.puzzles.specs.Walk.{Walk, got, stop, outcome, word, next, times, counted, readBlock, readMask}
 use Rattle.puzzles.proofs.Walking.{Got, outcome-got, next-refused}
@@ -48,7 +48,7 @@ module _ {A : Type 0} where
     unfolding times
     passing-stop h {why} r =
         let m : n - l ≡ suc (n - l - 1) = omega arith in
-        let t : told a ≡ refused (number (refusal why)) (place (refusal why)) = ap told r ∙ refusal-is why in
+        let t = refused-told r in
         t ∙ sym (P .same ∙ rw m (next-refused (f (at + i) (drop i part)) _ (sym e ∙ t)))
 
     module _ {W : A → List ℕ} {Fine : A → Type 0} (R : Reader f W Fine) {j : ℕ} (r : a ≡ Accepted j) where

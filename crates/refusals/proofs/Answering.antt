@@ -17,7 +17,7 @@ use Rattle.refusals.specs.Verdict.{Verdict, accepted, refused, number, p
 use Rattle.refusals.specs.Told.{refusal, told}
 use Rattle.refusals.specs.Outcome.{Answers, Outcome, verdict, kept}
 
-pub refusal-is : (why : Refusal) → refusal why ≡ refused (number (refusal why)) (place (refusal why))
+refusal-is : (why : Refusal) → refusal why ≡ refused (number (refusal why)) (place (refusal why))
 refusal-is (WordMissing p) = refl
 refusal-is (Size p) = refl
 refusal-is (TooManyBlocks p) = refl
@@ -42,28 +42,28 @@ refusal-is (DimacsLimit p) = refl
 refusal-is (ClauseWords p) = refl
 refusal-is (ProgramInput p) = refl
 
+pub refused-told : {a : Answer} {why : Refusal} → a ≡ Refused why → told a ≡ refused (number (refusal why)) (place (refusal why))
+refused-told {a} {why} r = ap told r ∙ refusal-is why
+
 -- a refusal goes up unchanged
 pub handed-up : {a : Answer} {why : Refusal} → a ≡ Refused why → (v : Verdict) → told a ≡ andThen (told a) v
 handed-up {a} {why} e v = rw (e, refusal-is why)
 
+-- a refusal is no acceptance
+pub refused-not : {a : Answer} {why : Refusal} → a ≡ Refused why → (n : ℕ) → told a ≡ accepted n → ⊥
+refused-not {a} {why} r n e =
+    let u : refused (number (refusal why)) (place (refusal why)) ≡ accepted n = sym (refused-told r) ∙ e in
+    let z : _≡_ {A = ℕ} 0 1 = cc in
+    omega arith
+
 -- which way a single test went
 pub told-refused : (b : Bool) (k p n : ℕ) {a : Answer} {why : Refusal} → a ≡ Refused why → told a ≡ refuse b k p (accepted n) → (b ≡ true) × (told a ≡ refused k p)
 told-refused true k p n r e = (refl, e)
-told-refused false k p n {a} {why} r e =
-    let u : refused (number (refusal why)) (place (refusal why)) ≡ accepted n = sym (refusal-is why) ∙ ap told (sym r) ∙ e in
-    let z : _≡_ {A = ℕ} 0 1 = cc in
-    absurd (omega arith)
+told-refused false k p n r e = absurd (refused-not r n e)
 
 pub told-accepted : (b : Bool) (k p n : ℕ) {a : Answer} {m : ℕ} → a ≡ Accepted m → told a ≡ refuse b k p (accepted n) → (b ≡ false) × (m ≡ n)
 told-accepted true k p n r e = let u : accepted _ ≡ refused k p = ap told (sym r) ∙ e in let z : _≡_ {A = ℕ} 0 1 = cc in absurd (omega arith)
 told-accepted false k p n {a} {m} r e = let u : accepted m ≡ accepted n = ap told (sym r) ∙ e in (refl, cc)
-
--- a refusal is no acceptance
-pub refused-not : {a : Answer} {why : Refusal} → a ≡ Refused why → (n : ℕ) → told a ≡ accepted n → ⊥
-refused-not {a} {why} r n e =
-    let u : refused (number (refusal why)) (place (refusal why)) ≡ accepted n = sym (refusal-is why) ∙ ap told (sym r) ∙ e in
-    let z : _≡_ {A = ℕ} 0 1 = cc in
-    omega arith
 
 -- what an acceptance says of the checks before it
 pub refuse-accepted : (b : Bool) (k p : ℕ) {n : ℕ} (v : Verdict) → accepted n ≡ refuse b k p v → (b ≡ false) × (accepted n ≡ v)
@@ -81,8 +81,8 @@ first-accepted (refused k p) w e = let z : _≡_ {A = ℕ} 0 1 = cc in absurd (o
 module _ {A : Type 0} (ws out : List A) {checks : Verdict} where
   pub answers-refused : {a : Answer} {why : Refusal} → a ≡ Refused why → told a ≡ checks → Answers checks ws out a out
   answers-refused {a} {why} r e =
-      let f : checks ≡ refused (number (refusal why)) (place (refusal why)) = sym e ∙ ap told r ∙ refusal-is why in
-      record { answer-is = ap told r ∙ refusal-is why ∙ rw f; out-is = rw f }
+      let f : checks ≡ refused (number (refusal why)) (place (refusal why)) = sym e ∙ refused-told r in
+      record { answer-is = refused-told r ∙ rw f; out-is = rw f }
 
   module _ {n : ℕ} (e : accepted n ≡ checks) where
     pub answers-short : {need : ℕ} → need ≡ length ws → length out < need → Answers checks ws out (Refused (OutputTooShort need)) out
@@ -114,7 +114,7 @@ module _ {A : Type 0} (ws out : List A) {checks : Verdict} where
 
     pub called-refused : {why : Refusal} → a ≡ Refused why → (n : ℕ) → accepted n ≡ checks → ⊥
     called-refused {why} r n e =
-        let u : refused (number (refusal why)) (place (refusal why)) ≡ accepted (length ws) = sym (refusal-is why) ∙ ap told (sym r) ∙ given .answer-is ∙ rw (← e, le-ltb _ _ room) in
+        let u : refused (number (refusal why)) (place (refusal why)) ≡ accepted (length ws) = sym (refused-told r) ∙ given .answer-is ∙ rw (← e, le-ltb _ _ room) in
         let z : _≡_ {A = ℕ} 0 1 = cc in
         omega arith
 
