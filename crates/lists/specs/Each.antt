@@ -1,5 +1,5 @@
 -- Lists as a loop makes them, a part for each turn.
-use Prim.Native.Nat.{ℕ, zero, suc}
+use Prim.Native.Nat.{ℕ, zero, suc, _+_, _-_}
 use mathlib.Core.Bool.{Bool, cond}
 use mathlib.Core.List.{List, [], _∷_, _++_}
 
@@ -13,6 +13,23 @@ module _ {A : Type 0} where
   unfoldable pub tab : ℕ → (ℕ → A) → List A
   tab n f = each n (λ k. f k ∷ [])
 
+  -- of each pair of numbers below n, the first outer
+  unfoldable pub pairs : ℕ → (ℕ → ℕ → List A) → List A
+  pairs n f = each n (λ i. each (n - suc i) (λ j. f i (suc i + j)))
+
+  -- of each two numbers below n, the first outer
+  unfoldable pub product : ℕ → (ℕ → ℕ → List A) → List A
+  product n f = each n (λ i. each n (λ j. f i j))
+
   -- the list, where the test holds
   abbrev pub when : Bool → List A → List A
   when b l = cond b l []
+
+-- f 0 + f 1 + .. + f (n - 1)
+unfoldable pub sum : ℕ → (ℕ → ℕ) → ℕ
+sum zero f = 0
+sum (suc n) f = sum n f + f n
+
+-- of each pair of numbers below n
+unfoldable pub sumPairs : ℕ → (ℕ → ℕ → ℕ) → ℕ
+sumPairs n f = sum n (λ i. sum (n - suc i) (λ j. f i (suc i + j)))

@@ -70,18 +70,18 @@ impl Literal {
 }
 
 // The words that writers put down.
-pub fn yes(v: u32) -> i32
+pub fn yes(v: usize) -> i32
     requires { ⌜ IsVariable v ⌝ }
     ensures { λ r. ⌜ r ≡ positive v ⌝ }
 {
-    Literal::positive(v).as_word()
+    Literal::positive(v as u32).as_word()
 }
 
-pub fn no(v: u32) -> i32
+pub fn no(v: usize) -> i32
     requires { ⌜ IsVariable v ⌝ }
     ensures { λ r. ⌜ r ≡ negative v ⌝ }
 {
-    Literal::negative(v).as_word()
+    Literal::negative(v as u32).as_word()
 }
 
 // A count.

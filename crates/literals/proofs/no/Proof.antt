@@ -6,6 +6,7 @@ use Rattle.literals.proofs.no.Tie as tie
 
 pub no-spec : {M : Type 1} → statement M
 no-spec = tie.close (tie.spec
+    (λ c. search needs)
     (λ c κs. search needs)
     (λ c κs. search needs)
     (λ c. word-is _ (c .as-word .ok) ∙ c .as-word .ensures ∙ c .before .negative .ensures))

@@ -6,6 +6,7 @@ use Rattle.literals.proofs.yes.Tie as tie
 
 pub yes-spec : {M : Type 1} → statement M
 yes-spec = tie.close (tie.spec
+    (λ c. search needs)
     (λ c κs. search needs)
     (λ c κs. search needs)
     (λ c. word-is _ (c .as-word .ok) ∙ c .as-word .ensures ∙ c .before .positive .ensures))

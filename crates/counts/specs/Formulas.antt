@@ -1,0 +1,55 @@
+-- Document 01's formulas for the counts. `counts` proves each of them to be the length of its family.
+use mathlib.Core.Bool.{cond}
+use Prim.Native.Nat.{ℕ, _+_, _-_, _*_, _/_}
+use lib.ListN.{length, getD}
+use Rattle.lists.specs.Each.{sum, sumPairs}
+use Rattle.bits.specs.Bits.{bit}
+use Rattle.lines.specs.Clue.{gap}
+use Rattle.lines.specs.Arrangement.{at, distance}
+use Rattle.puzzles.specs.Puzzle.{Puzzle, width, height, lines}
+use Rattle.puzzles.specs.Colors.{solved}
+use Rattle.numbering.specs.Variables.{Line, lineAt, many, hues, hue}
+
+-- over n lines from line l on
+unfoldable pub overLines : Puzzle → ℕ → ℕ → (Line → ℕ) → ℕ
+overLines z l n f = sum n (λ k. f (lineAt z (l + k)))
+
+-- 1 and 2: the blocks
+abbrev pub blocksIn : Line → ℕ
+blocksIn L = many L
+
+-- 3 and 4: the sum of p(p-1)/2
+unfoldable pub onceIn : Line → ℕ
+onceIn L = sum (many L) (λ b. L .positions * (L .positions - 1) / 2)
+
+-- 5 and 6: per pair n(n+1)/2 with n = max(0, p - d)
+unfoldable pub overlapIn : Line → ℕ
+overlapIn L =
+    sumPairs (many L) (λ a b.
+    let n = L .positions - distance gap (at (L .runs) a) (at (L .runs) b) in
+    n * (n + 1) / 2)
+
+-- 7: twice cells times colours
+abbrev pub colorCount : Puzzle → ℕ
+colorCount z = 2 * (width z * height z * hues z)
+
+-- 8: the sum of p times size over all blocks
+unfoldable pub spaceIn : Line → ℕ
+spaceIn L = sum (many L) (λ b. L .positions * at (L .runs) b .size)
+
+abbrev pub spaceCount : Puzzle → ℕ
+spaceCount z = overLines z 0 (lines z) spaceIn
+
+-- 9: cells times k(k-1)/2, k colours
+abbrev pub pointCount : Puzzle → ℕ
+pointCount z = width z * height z * (hues z * (hues z - 1) / 2)
+
+-- 10: per cell 1 if a solved colour, k if solved blank, else its excluded colours
+unfoldable pub excluded : Puzzle → ℕ → ℕ
+excluded z mask = sum (hues z) (λ r. cond (bit mask (hue z r)) 0 1)
+
+unfoldable pub unitsOf : Puzzle → ℕ → ℕ
+unitsOf z mask = cond (solved mask) (cond (bit mask 0) (hues z) 1) (excluded z mask)
+
+abbrev pub unitCount : Puzzle → ℕ
+unitCount z = sum (length (z .masks)) (λ i. unitsOf z (getD (z .masks) i 0))

@@ -1,0 +1,1 @@
+// The ten families in order, and how many clauses they have.

@@ -1,0 +1,2 @@
+pub mod Variables
+pub mod Tables

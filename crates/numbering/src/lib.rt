@@ -1,0 +1,1 @@
+// The colours of a puzzle in order, and what the table holds of a line.

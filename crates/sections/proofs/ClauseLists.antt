@@ -1,0 +1,60 @@
+-- The words and the literals of clauses, list by list.
+use mathlib.Core.Path.{_≡_, refl, sym}
+use mathlib.Core.List.{List, [], _∷_, _++_, append-assoc, append-nil}
+use Prim.Native.Nat.{ℕ, zero, suc, _+_, _≤_}
+use native.Mathlib.Omega.{arith}
+use native.Mathlib.Nat.{zero-add}
+use lib.IntN.{ℤ}
+use lib.ListN.{length, length-append}
+use Rattle.lists.specs.Each.{each, sum}
+use Rattle.lists.specs.Wrote.{Wrote}
+use Rattle.lists.proofs.Emitting.{Emitting, emit-first, emit-done}
+use Rattle.sections.specs.Sections.{Clause, clauseWords, clausesWords, sectionWords, literals}
+
+pub clauses-append : (cs ds : List Clause) → clausesWords (cs ++ ds) ≡ clausesWords cs ++ clausesWords ds
+unfolding clausesWords
+clauses-append [] ds = refl
+clauses-append (c ∷ cs) ds = rw (clauses-append cs ds, append-assoc)
+
+pub clauses-each : (n : ℕ) (f : ℕ → List Clause) → clausesWords (each n f) ≡ each n (λ k. clausesWords (f k))
+unfolding each
+clauses-each zero f = unfold clausesWords in refl
+clauses-each (suc n) f = rw (clauses-append (each n f) (f n), clauses-each n f)
+
+pub clauses-one : (c : Clause) → clausesWords (c ∷ []) ≡ clauseWords c
+unfolding clausesWords
+clauses-one c = append-nil (clauseWords c)
+
+-- ---- a loop whose turn k writes the clauses f k
+
+module _ (n : ℕ) (f : ℕ → List Clause) where
+  pub say-first : (out : List ℤ) (at : ℕ) → at + length (clausesWords (each n f)) ≤ length out → Emitting n (λ k. clausesWords (f k)) out at out at 0
+  say-first out at h = emit-first n _ out at (rw (← clauses-each n f) h)
+
+  pub say-done : {out₀ out : List ℤ} {at₀ at i : ℕ} → Emitting n (λ k. clausesWords (f k)) out₀ at₀ out at i → n ≤ i → Wrote (clausesWords (each n f)) out₀ at₀ out at
+  say-done E h = rw (clauses-each n f) (emit-done E h)
+
+-- one clause
+pub said : (c : Clause) {out out₁ : List ℤ} {at at₁ : ℕ} → Wrote (clauseWords c) out at out₁ at₁ → Wrote (clausesWords (c ∷ [])) out at out₁ at₁
+said c w = rw (clauses-one c) w
+
+-- ---- lengths
+
+pub literals-append : (cs ds : List Clause) → literals (cs ++ ds) ≡ literals cs + literals ds
+unfolding literals
+literals-append [] ds = sym (zero-add (literals ds))
+literals-append (c ∷ cs) ds = omega (arith, literals-append cs ds)
+
+pub literals-each : (n : ℕ) (f : ℕ → List Clause) → literals (each n f) ≡ sum n (λ k. literals (f k))
+unfolding each sum
+literals-each zero f = unfold literals in refl
+literals-each (suc n) f = rw (literals-append (each n f) (f n), literals-each n f)
+
+pub clauses-length : (cs : List Clause) → length (clausesWords cs) ≡ length cs + literals cs
+unfolding clausesWords clauseWords literals
+clauses-length [] = refl
+clauses-length (c ∷ cs) = omega (arith, length-append c (clausesWords cs), clauses-length cs)
+
+pub section-length : (cs : List Clause) → length (sectionWords cs) ≡ 1 + length cs + literals cs
+unfolding sectionWords
+section-length cs = omega (arith, clauses-length cs)

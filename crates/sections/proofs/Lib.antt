@@ -1,0 +1,2 @@
+pub mod ClauseLists
+pub mod Rows
