@@ -9,10 +9,8 @@ use Rattle.lines.specs.Arrangement.{at, distance}
 use Rattle.puzzles.specs.Puzzle.{Puzzle, width, height, lines}
 use Rattle.puzzles.specs.Colors.{solved}
 use Rattle.numbering.specs.Variables.{Line, lineAt, many, hues, hue}
-
--- over n lines from line l on
-unfoldable pub overLines : Puzzle → ℕ → ℕ → (Line → ℕ) → ℕ
-overLines z l n f = sum n (λ k. f (lineAt z (l + k)))
+use Rattle.counts.specs.declared.measure.Measure.{Measure}
+use Rattle.counts.specs.declared.measure.Measure.the-variants.{Blocks, Once, Overlap, Space}
 
 -- 1 and 2: the blocks
 abbrev pub blocksIn : Line → ℕ
@@ -29,16 +27,27 @@ overlapIn L =
     let n = L .positions - distance gap (at (L .runs) a) (at (L .runs) b) in
     n * (n + 1) / 2)
 
--- 7: twice cells times colours
-abbrev pub colorCount : Puzzle → ℕ
-colorCount z = 2 * (width z * height z * hues z)
-
 -- 8: the sum of p times size over all blocks
 unfoldable pub spaceIn : Line → ℕ
 spaceIn L = sum (many L) (λ b. L .positions * at (L .runs) b .size)
 
+unfoldable pub measured : Measure → Line → ℕ
+measured Blocks L = blocksIn L
+measured Once L = onceIn L
+measured Overlap L = overlapIn L
+measured Space L = spaceIn L
+
+-- over n lines from line l on
+unfoldable pub overLines : Puzzle → Measure → ℕ → ℕ → ℕ
+overLines z m l n = sum n (λ k. measured m (lineAt z (l + k)))
+
+-- 7: twice cells times colours
+abbrev pub colorCount : Puzzle → ℕ
+colorCount z = 2 * (width z * height z * hues z)
+
+-- 8
 abbrev pub spaceCount : Puzzle → ℕ
-spaceCount z = overLines z 0 (lines z) spaceIn
+spaceCount z = overLines z Space 0 (lines z)
 
 -- 9: cells times k(k-1)/2, k colours
 abbrev pub pointCount : Puzzle → ℕ

@@ -1,1 +1,2 @@
-// The ten families in order, and how many clauses they have.
+// The ten families in order, and how many clauses, literals and words they have.
+pub mod measure;
