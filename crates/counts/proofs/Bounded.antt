@@ -11,12 +11,14 @@ use Rattle.bits.specs.Bits.{bit}
 use Rattle.lines.specs.Arrangement.{at}
 use Rattle.puzzles.specs.Puzzle.{Puzzle, width, height, lines}
 use Rattle.puzzles.specs.Colors.{solved}
+use Rattle.puzzles.specs.Checks.{colors}
 use Rattle.puzzles.specs.Good.{Good}
 use Rattle.numbering.specs.Variables.{Line, many, hues, hue}
 use Rattle.numbering.specs.Tables.{Sound}
 use Rattle.numbering.proofs.SoundLines.{sound-shared, sound-some, sound-distance, sound-sizes}
 use Rattle.numbering.proofs.Bounds.{line-sound, hues-most, cells-most}
-use Rattle.counts.specs.Formulas.{onceIn, overlapIn, spaceIn, measured, overLines, pointCount, excluded, unitsOf, unitCount}
+use Rattle.numbering.proofs.Palettes.{palette-most}
+use Rattle.counts.specs.Formulas.{onceIn, overlapIn, spaceIn, measured, overLines, pointCount, excluded, unitsBy, unitCount}
 use Rattle.counts.specs.declared.measure.Measure.{Measure}
 use Rattle.counts.specs.declared.measure.Measure.the-variants.{Blocks, Once, Overlap, Space}
 use Rattle.counts.proofs.Triangles.{pairs-count}
@@ -53,7 +55,7 @@ module _ {L : Line} (S : Sound L) where
       omega (arith, rw e at (pairs-most n 65 (omega (arith, sound-shared S))), mul-comm (L .positions - d) (L .positions - d + 1))
 
   overlap-most : overlapIn L ≤ 4193280
-  unfolding overlapIn
+  unfolding overlapIn overlapAt sumPairs
   overlap-most =
       omega (arith, pairs-below (many L) 2080 _ (λ a b h l. pair-most _ (sound-distance S a b h l)), mul-le-mul-left 2080 (pairs-most (many L) 64 few))
     where
@@ -82,26 +84,26 @@ measured-most Once S = once-most S
 measured-most Overlap S = overlap-most S
 measured-most Space S = space-most S
 
+pub units-most : (K mask : ℕ) → unitsBy K mask ≤ 31
+unfolding unitsBy excluded
+units-most K mask = cases (solved mask) (bit mask 0)
+  where
+    out : (b : Bool) → cond b 0 1 ≤ 1
+    out true = omega arith
+    out false = omega arith
+
+    cases : (s b : Bool) → cond s (cond b (length (palette K)) 1) (sum (length (palette K)) (λ r. cond (bit mask (getD (palette K) r 0)) 0 1)) ≤ 31
+    cases true true = palette-most K
+    cases true false = omega arith
+    cases false b = omega (arith, sum-most (length (palette K)) 1 _ (λ r _. out (bit mask (getD (palette K) r 0))), palette-most K, mul-one (length (palette K)))
+
 module _ (z : Puzzle) (G : Good z) where
   pub lines-most : (m : Measure) (l n : ℕ) → l + n ≤ lines z → overLines z m l n ≤ n * most m
   unfolding overLines
   lines-most m l n h = sum-most n (most m) _ (λ k i. measured-most m (line-sound z G (l + k) (omega arith)))
 
-  pub units-most : (mask : ℕ) → unitsOf z mask ≤ 31
-  unfolding unitsOf excluded
-  units-most mask = cases (solved mask) (bit mask 0)
-    where
-      out : (b : Bool) → cond b 0 1 ≤ 1
-      out true = omega arith
-      out false = omega arith
-
-      cases : (s b : Bool) → cond s (cond b (hues z) 1) (sum (hues z) (λ r. cond (bit mask (hue z r)) 0 1)) ≤ 31
-      cases true true = hues-most z
-      cases true false = omega arith
-      cases false b = omega (arith, sum-most (hues z) 1 _ (λ r _. out (bit mask (hue z r))), hues-most z, mul-one (hues z))
-
   pub unit-most : unitCount z ≤ 126976
-  unit-most = omega (arith, sum-most (length (z .masks)) 31 _ (λ i _. units-most (getD (z .masks) i 0)), G .area, cells-most z G)
+  unit-most = omega (arith, sum-most (length (z .masks)) 31 _ (λ i _. units-most (colors z) (getD (z .masks) i 0)), G .area, cells-most z G)
 
   pub point-most : pointCount z ≤ 1904640
   point-most = omega (arith, mul-le-mul-left (width z * height z) (pairs-most (hues z) 31 (hues-most z)), mul-le-mul-right 465 (cells-most z G))

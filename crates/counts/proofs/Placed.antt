@@ -79,7 +79,7 @@ module _ {L : Line} (S : Sound L) where
       ∙ triangle-count d (sound-distance S a b h l) (L .positions)
 
   overlap-length : length (nonOverlap L) ≡ overlapIn L
-  unfolding nonOverlap overlapIn sumPairs
+  unfolding nonOverlap overlapIn overlapAt sumPairs
   overlap-length =
       length-pairs (many L) _ ∙ sum-same (many L) _ _ (λ a h. sum-same (many L - suc a) _ _ (λ j l. pair-length a (suc a + j) (omega arith) (omega arith)))
 

@@ -25,7 +25,7 @@ use Rattle.puzzles.specs.Good.{Good}
 use Rattle.puzzles.proofs.ColorSets.{good-known}
 use Rattle.numbering.specs.Variables.{hues, hue, cellVariable}
 use Rattle.cells.specs.Cells.{precomputed, maskAt, precomputedCells}
-use Rattle.counts.specs.Formulas.{excluded, unitsOf, unitCount}
+use Rattle.counts.specs.Formulas.{excluded, unitsBy, unitCount}
 use Rattle.counts.proofs.OverColors.{over-colors}
 use Rattle.counts.proofs.Literals.{HasEach, one-has, each-has, when-has}
 
@@ -118,25 +118,25 @@ precomputed-length mask c v = cases (solved mask) (bit mask 0) (bit mask c)
 
 -- of all colours
 cell-units : (z : Puzzle) (K : ℕ) → K ≡ colors z → K < 2 ^ 32 → (mask : ℕ) → offSolved K mask ≡ false → (s b : Bool) → solved mask ≡ s → bit mask 0 ≡ b
-    → sum (hues z) (λ r. cond s (cond b 1 (cond (bit mask (hue z r)) 1 0)) (cond (bit mask (hue z r)) 0 1)) ≡ cond s (cond b (hues z) 1) (excluded z mask)
+    → sum (hues z) (λ r. cond s (cond b 1 (cond (bit mask (hue z r)) 1 0)) (cond (bit mask (hue z r)) 0 1)) ≡ cond s (cond b (hues z) 1) (excluded (colors z) mask)
 unfolding excluded included
 cell-units z K e small mask o true true p q = sum-constant (hues z) 1 ∙ mul-one (hues z)
 cell-units z K e small mask o true false p q = over-colors (λ c. cond (bit mask c) 1 0) (colors z) ∙ ap (λ (k : ℕ). included k mask) (sym e) ∙ solved-one K mask small p q o
 cell-units z K e small mask o false b p q = refl
 
 pub cells-units : (z : Puzzle) → Good z → length (precomputedCells z) ≡ unitCount z
-unfolding precomputedCells unitsOf
+unfolding precomputedCells unitsBy
 cells-units z G =
     let w = width z in
     let h = height z in
     let mask : ℕ → ℕ = λ i. getD (z .masks) i 0 in
-    let cell : (y x : ℕ) → y < h → x < w → length (each (hues z) (λ r. precomputed (maskAt z x y) (hue z r) (cellVariable z x y r))) ≡ unitsOf z (mask (y * w + x)) = λ y x j k.
+    let cell : (y x : ℕ) → y < h → x < w → length (each (hues z) (λ r. precomputed (maskAt z x y) (hue z r) (cellVariable z x y r))) ≡ unitsBy (colors z) (mask (y * w + x)) = λ y x j k.
     length-each (hues z) _ ∙ sum-same (hues z) _ _ (λ r _. precomputed-length (maskAt z x y) (hue z r) (cellVariable z x y r))
     ∙ cell-units z (colors z) refl (good-known z G .small) (maskAt z x y) (G .solved-known (y * w + x) (omega (arith, G .area, place-within h w y x j k, mul-comm h w))) (solved (maskAt z x y)) (bit (maskAt z x y) 0) refl refl in
     length-each h _
     ∙ sum-same h _ _ (λ y j. length-each w _ ∙ sum-same w _ _ (λ x k. cell y x j k))
-    ∙ sum-parts h w (λ i. unitsOf z (mask i))
-    ∙ ap (λ (n : ℕ). sum n (λ i. unitsOf z (mask i))) (mul-comm h w ∙ sym (G .area))
+    ∙ sum-parts h w (λ i. unitsBy (colors z) (mask i))
+    ∙ ap (λ (n : ℕ). sum n (λ i. unitsBy (colors z) (mask i))) (mul-comm h w ∙ sym (G .area))
 
 -- one literal in each clause
 pub units-ones : (z : Puzzle) → HasEach 1 (precomputedCells z)
