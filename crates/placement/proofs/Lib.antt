@@ -1,0 +1,5 @@
+pub mod BlockLoops
+pub mod LateLoops
+pub mod LineFacts
+pub mod RowLaw
+pub mod SectionLoops
