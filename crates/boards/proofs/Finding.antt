@@ -4,16 +4,18 @@ use mathlib.Core.List.{List}
 use Prim.Native.Nat.{ℕ, suc, _+_, _-_, _*_, _≤_, _<_}
 use native.Mathlib.Omega.{arith}
 use native.Mathlib.Nat.{add-zero}
+use native.Mathlib.Numerals.{add-one}
 use lib.ListN.{length, take, drop, getD}
 use lib.Seq.{getD-take, getD-drop}
 use Rattle.lines.specs.Clue.{words, gap, minSpace, packed}
 use Rattle.lines.specs.Arrangement.{at}
+use Rattle.lines.proofs.Checks.{size-within}
 use Rattle.lines.proofs.ClueWords.{starts-positions, starts-space, starts-start}
 use Rattle.puzzles.specs.Puzzle.{Puzzle, lines, clueAt, lengthAt}
 use Rattle.puzzles.specs.Checks.{puzzle, Sectioned}
 use Rattle.boards.specs.Table.{beginAt, firstAt, positionsAt, lineWords, LineLaid, Laid}
 use Rattle.boards.proofs.Beginning.{Here}
-use Rattle.boards.proofs.Laying.{line-size, line-here}
+use Rattle.boards.proofs.Laying.{line-size, line-fine, line-here, lines-most, variables-most, first-most}
 
 module _ (z : Puzzle) (table : List ℕ) (l : ℕ) (L : LineLaid z table l) where
   laid-word : (i : ℕ) → i < length (lineWords z l) → getD table (68 * l + i) 0 ≡ getD (lineWords z l) i 0
@@ -57,3 +59,16 @@ module _ (ws : List ℕ) (S : Sectioned ws) (table : List ℕ) (L : Laid (puzzle
   found-part {end} q =
       let n : end - (from + 1) ≡ 2 * length (clueAt (puzzle ws) l) = omega (arith, found .count-is) in
       rw n (found .part-is)
+
+  -- the first variable behind those of the line
+  pub found-next : {blocks first p : ℕ} → blocks ≡ getD ws from 0 → first ≡ getD table (68 * l + 1) 0 → p ≡ getD table (68 * l + 2) 0 → first + blocks * p ≡ firstAt (puzzle ws) (l + 1)
+  unfolding firstAt
+  found-next b f q =
+      let z = puzzle ws in
+      rw (add-one l, b ∙ found .count-is, f ∙ laid-first z table l (L l h), q ∙ laid-positions z table l (L l h))
+
+  pub found-few : {blocks first p : ℕ} → blocks ≡ getD ws from 0 → first ≡ getD table (68 * l + 1) 0 → p ≡ getD table (68 * l + 2) 0 → (blocks * p ≤ 4160) × (first ≤ 532481)
+  found-few b f q =
+      let z = puzzle ws in
+      let F = line-fine ws S l h in
+      (rw (b ∙ found .count-is, q ∙ laid-positions z table l (L l h)) (variables-most z l (F .few) (size-within (lengthAt z l) (F .sized))), omega (arith, f, laid-first z table l (L l h), first-most ws S l (omega arith), lines-most ws S l h))

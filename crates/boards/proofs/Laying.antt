@@ -2,7 +2,7 @@
 use mathlib.Core.Path.{_≡_, refl, sym, ap, _∙_}
 use mathlib.Core.Bool.{true, false, cond}
 use mathlib.Core.List.{List, [], _∷_}
-use Prim.Native.Nat.{ℕ, suc, _+_, _-_, _*_, _≤_, _<_}
+use Prim.Native.Nat.{ℕ, zero, suc, _+_, _-_, _*_, _≤_, _<_}
 use native.Mathlib.Omega.{arith}
 use native.Mathlib.Nat.{mul-le-mul-right}
 use native.Mathlib.Decide.{decLt}
@@ -37,6 +37,13 @@ line-size z l = omega (arith, starts-size (lengthAt z l) (clueAt z l))
 pub variables-most : (z : Puzzle) (l : ℕ) → length (clueAt z l) ≤ 64 → lengthAt z l ≤ 64 → length (clueAt z l) * positionsAt z l ≤ 4160
 variables-most z l few short =
     omega (arith, mul-le-mul-right (positionsAt z l) few, positions-bound (lengthAt z l) (clueAt z l))
+
+pub first-most : (ws : List ℕ) → Sectioned ws → (l : ℕ) → l ≤ lines (puzzle ws) → firstAt (puzzle ws) l ≤ 1 + 4160 * l
+unfolding firstAt
+first-most ws S zero h = omega arith
+first-most ws S (suc l) h =
+    let F = fine-lines (puzzle ws) (walked-is ws S .fine) l (omega arith) in
+    omega (arith, first-most ws S l (omega arith), variables-most (puzzle ws) l (F .few) (size-within (lengthAt (puzzle ws) l) (F .sized)))
 
 -- ---- one line of words whose sections were read
 

@@ -7,9 +7,9 @@ use Rattle.refusals.specs.Told.{refusal}
 use Rattle.boards.specs.declared.board.Board.{Board}
 use Rattle.boards.specs.declared.board.Reading.{Reading}
 use Rattle.boards.specs.declared.board.Reading.the-variants.{Read, Refused}
-use Rattle.puzzles.specs.Puzzle.{Puzzle, width, height, rowsAt, cellsAt}
+use Rattle.puzzles.specs.Puzzle.{Puzzle, width, height, lines, rowsAt, cellsAt}
 use Rattle.puzzles.specs.Checks.{colors, puzzleChecks, puzzle}
-use Rattle.boards.specs.Table.{Laid}
+use Rattle.boards.specs.Table.{firstAt, Laid}
 
 -- the board's numbers are the puzzle's
 pub record Stands (b : Board) (z : Puzzle) : Type 0 where
@@ -17,6 +17,7 @@ pub record Stands (b : Board) (z : Puzzle) : Type 0 where
   pub height-is : b .height ≡ height z
   pub rows-is : b .rows ≡ rowsAt z
   pub cells-is : b .cells ≡ cellsAt z
+  pub first-is : b .first ≡ firstAt z (lines z)
   pub colors-is : b .colors ≡ colors z
 
 pub record Held (ws : List ℕ) (table : List ℕ) (b : Board) : Type 0 where

@@ -4,6 +4,7 @@ use crate::colors::check_columns;
 use crate::colors::row_colors;
 use crate::table::clue_end;
 use crate::table::lay_lines;
+use crate::table::next_first;
 use lists::wide;
 use puzzles::check::check_sections;
 use refusals::Answer;
@@ -18,12 +19,13 @@ ghost use Rattle.puzzles.specs.Checks as C;
 ghost use Rattle.boards.specs.Table.{Laid};
 ghost use Rattle.boards.specs.Reading.{Stands, Reads};
 
-// Where the rows and the cells begin, and the colour set as a mask.
+// Where the rows and the cells begin, the first cell variable, and the colour set as a mask.
 pub struct Board {
     pub width: usize,
     pub height: usize,
     pub rows: usize,
     pub cells: usize,
+    pub first: usize,
     pub colors: u32,
 }
 
@@ -80,13 +82,15 @@ fn board_of(words: &[u32], colors: u32, table: &[u32]) -> Board
     let width = wide(words[0]);
     let rows = wide(table[68 * width]) - 1;
     let height = wide(words[rows]);
-    let last = wide(table[68 * (width + height - 1)]);
-    let cells = clue_end(words, last);
+    let last = width + height - 1;
+    let cells = clue_end(words, wide(table[68 * last]));
+    let first = next_first(words, table, last);
     Board {
         width,
         height,
         rows,
         cells,
+        first,
         colors,
     }
 }

@@ -15,7 +15,7 @@ ghost use Rattle.refusals.specs.Verdict.{accepted, refuse};
 ghost use Rattle.lines.specs.Clue.{gap, minSpace};
 ghost use Rattle.puzzles.specs.Puzzle as P;
 ghost use Rattle.puzzles.specs.Checks.{puzzle, Sectioned, spaces};
-ghost use Rattle.boards.specs.Table.{positionsAt, lineWords, Laid, Standing};
+ghost use Rattle.boards.specs.Table.{firstAt, positionsAt, lineWords, Laid, Standing};
 
 // The cells of line l.
 fn line_length(l: usize, width: usize, height: usize) -> usize
@@ -84,4 +84,14 @@ pub fn clue_end(words: &[u32], from: usize) -> usize
     ensures { λ r. ⌜ r ≡ from + 1 + 2 * getD (now (words .entry)) from 0 ⌝ }
 {
     from + 1 + 2 * wide(words[from])
+}
+
+// The first variable behind those of line l.
+pub fn next_first(words: &[u32], table: &[u32], l: usize) -> usize
+    requires { ⌜ Sectioned (now words) × Laid (puzzle (now words)) (now table) ⌝ }
+    requires { ⌜ (l < P.lines (puzzle (now words))) × (8704 ≤ length (now table)) ⌝ }
+    ensures { λ r. ⌜ r ≡ firstAt (puzzle (now (words .entry))) (l + 1) ⌝ }
+{
+    let blocks = wide(words[wide(table[68 * l])]);
+    wide(table[68 * l + 1]) + blocks * wide(table[68 * l + 2])
 }

@@ -2,7 +2,7 @@
 use mathlib.Core.Path.{_≡_, refl, sym, ap, _∙_}
 use mathlib.Core.Bool.{true, false}
 use mathlib.Core.List.{List, [], _∷_}
-use Prim.Native.Nat.{ℕ, suc, _+_, _-_, _*_, _/_, _≤_, _<_}
+use Prim.Native.Nat.{ℕ, zero, suc, _+_, _-_, _*_, _/_, _≤_, _<_}
 use native.Mathlib.Nat.{not-suc-le-zero, le-of-suc-le-suc}
 use native.Mathlib.Omega.{arith}
 use lib.ListN.{length, drop, getD, set, length-drop}
@@ -12,7 +12,7 @@ use Rattle.lists.proofs.Dropping.{drop-two}
 use Rattle.lists.proofs.Writing.{Filling, fill-first, fill-as, fill-space, fill-store, fill-done, wrote-then, wrote-sets}
 use Rattle.refusals.specs.Verdict.{accepted, refused}
 use Rattle.lines.specs.Clue.{Block, words, blocks, gap, packedFrom, packed, starts, lastEnd, minSpace, positions}
-use Rattle.lines.specs.Arrangement.{at}
+use Rattle.lines.specs.Arrangement.{blockAt, at}
 use Rattle.lines.specs.Calls.{offColor, blockChecks, startsWords}
 use Rattle.lines.proofs.Packing.{starts-at}
 
@@ -145,6 +145,19 @@ pub words-length : (bs : List Block) → length (words bs) ≡ 2 * length bs
 unfolding words
 words-length [] = refl
 words-length (b ∷ bs) = omega (arith, words-length bs)
+
+-- size and colour of block b
+pub word-size : (bs : List Block) (b : ℕ) → getD (words bs) (2 * b) 0 ≡ blockAt bs b .size
+unfolding words
+word-size [] b = refl
+word-size (x ∷ bs) zero = refl
+word-size (x ∷ bs) (suc b) = let e : 2 * suc b ≡ suc (suc (2 * b)) = omega arith in rw e (word-size bs b)
+
+pub word-color : (bs : List Block) (b : ℕ) → getD (words bs) (2 * b + 1) 0 ≡ blockAt bs b .color
+unfolding words
+word-color [] b = refl
+word-color (x ∷ bs) zero = refl
+word-color (x ∷ bs) (suc b) = let e : 2 * suc b + 1 ≡ suc (suc (2 * b + 1)) = omega arith in rw e (word-color bs b)
 
 pub blocks-words : (bs : List Block) → blocks (words bs) ≡ bs
 unfolding words blocks

@@ -57,6 +57,11 @@ pub positions-some : (g : ℕ → ℕ → ℕ) (n : ℕ) (bs : List Block) → 0
 unfolding positions
 positions-some g n bs = omega arith
 
+-- positions and least space share the line
+pub positions-space : (g : ℕ → ℕ → ℕ) (n : ℕ) (bs : List Block) → minSpace g bs ≤ n → positions g n bs + minSpace g bs ≡ n + 1
+unfolding positions
+positions-space g n bs h = omega arith
+
 module _ {g : ℕ → ℕ → ℕ} (G : Gap g) {bs : List Block} (p : Proper bs) where
   -- a clue with a block has at most as many positions as the line has cells
   pub positions-most : (n : ℕ) → minSpace g bs ≤ n → 0 < length bs → positions g n bs ≤ n

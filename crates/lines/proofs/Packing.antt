@@ -8,6 +8,8 @@ use native.Mathlib.Decide.{ℕ-discrete}
 use lib.ListN.{length, getD, length-map, List·getD-map}
 use lib.Dec.{eqb}
 use borrow.Author.Tests.{eq-eqb, ne-eqb}
+use Rattle.lists.specs.Each.{sum}
+use Rattle.lists.proofs.Sums.{sum-least}
 use Rattle.lines.specs.Clue.{Block, Run, end, gap, packedFrom, packed, starts, lastEnd, minSpace}
 use Rattle.lines.specs.Arrangement.{Gap, Proper, blockAt, at}
 
@@ -121,3 +123,21 @@ module _ {g : ℕ → ℕ → ℕ} (G : Gap g) {bs : List Block} (p : Proper bs)
     | yes e ↦ omega (arith, packed-last g bs b e)
     | no e ↦ omega (arith, packed-apart b (length bs - 1) (omega arith) (omega arith), packed-last g bs (length bs - 1) (omega arith))
   ]
+
+  -- the sizes of the runs before one of them are behind its start
+  sizes-before : (b : ℕ) → b < length bs → sum b (λ a. at (packed g bs) a .size) ≤ at (packed g bs) b .start
+  unfolding sum
+  sizes-before zero h = omega arith
+  sizes-before (suc b) h = omega (arith, sizes-before b (omega arith), packed-next g bs b h)
+
+  -- the sizes of all of them are within the least space, and so is their number
+  sizes-up : (n : ℕ) → n ≡ length bs → sum n (λ b. at (packed g bs) b .size) ≤ minSpace g bs
+  unfolding sum
+  sizes-up zero e = omega arith
+  sizes-up (suc b) e = omega (arith, sizes-before b (omega arith), packed-within b (omega arith))
+
+  pub sizes-within : sum (length bs) (λ b. at (packed g bs) b .size) ≤ minSpace g bs
+  sizes-within = sizes-up (length bs) refl
+
+  pub blocks-within : length bs ≤ minSpace g bs
+  blocks-within = omega (arith, sizes-within, sum-least (length bs) (λ b. at (packed g bs) b .size) packed-sized)

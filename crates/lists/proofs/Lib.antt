@@ -4,3 +4,4 @@ pub mod Emitting
 pub mod Parts
 pub mod Tests
 pub mod Writing
+pub mod Sums

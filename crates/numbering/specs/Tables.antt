@@ -1,7 +1,7 @@
 -- How writers see an accepted puzzle: its words, the table of its lines, and of each line its words there and its clue's words.
 use mathlib.Core.Path.{_≡_}
 use mathlib.Core.List.{List}
-use Prim.Native.Nat.{ℕ, suc, _+_, _*_, _/_, _≤_, _<_}
+use Prim.Native.Nat.{ℕ, _+_, _*_, _/_, _≤_, _<_}
 use lib.ListN.{length, getD}
 use Rattle.lists.specs.Each.{tab}
 use Rattle.lines.specs.Clue.{Block, gap, packed, minSpace, positions}

@@ -1,8 +1,8 @@
 -- Document 01, "Variables": from 1; columns, their blocks, their positions; then rows likewise; then cells row by row, colours of K ascending.
 use mathlib.Core.List.{List, [], _∷_}
-use Prim.Native.Nat.{ℕ, suc, _+_, _-_, _*_, _/_}
+use Prim.Native.Nat.{ℕ, suc, _+_, _-_, _*_}
 use lib.ListN.{length, getD}
-use Rattle.lists.specs.Each.{each, tab, when}
+use Rattle.lists.specs.Each.{each, when}
 use Rattle.bits.specs.Bits.{bit}
 use Rattle.lines.specs.Clue.{Run, gap, packed}
 use Rattle.lines.specs.Arrangement.{at, moved}

@@ -1,0 +1,59 @@
+-- The laws of `sum`, and lengths as sums.
+use mathlib.Core.Path.{_≡_, refl, sym, _∙_}
+use mathlib.Core.List.{List}
+use Prim.Native.Nat.{ℕ, zero, suc, _+_, _-_, _*_, _≤_, _<_}
+use native.Mathlib.Omega.{arith}
+use native.Mathlib.Nat.{mul-zero, zero-mul, suc-mul}
+use lib.ListN.{length, length-append}
+use Rattle.lists.specs.Each.{each, pairs, product, sum, sumPairs}
+
+pub sum-same : (n : ℕ) (f g : ℕ → ℕ) → ((k : ℕ) → k < n → f k ≡ g k) → sum n f ≡ sum n g
+unfolding sum
+sum-same zero f g h = refl
+sum-same (suc n) f g h = rw (sum-same n f g (λ k l. h k (omega arith)), h n (omega arith))
+
+pub sum-below : (n : ℕ) (f g : ℕ → ℕ) → ((k : ℕ) → k < n → f k ≤ g k) → sum n f ≤ sum n g
+unfolding sum
+sum-below zero f g h = omega arith
+sum-below (suc n) f g h = omega (arith, sum-below n f g (λ k l. h k (omega arith)), h n (omega arith))
+
+pub sum-constant : (n c : ℕ) → sum n (λ k. c) ≡ n * c
+unfolding sum
+sum-constant zero c = sym (zero-mul c)
+sum-constant (suc n) c = omega (arith, sum-constant n c, suc-mul n c)
+
+pub sum-most : (n m : ℕ) (f : ℕ → ℕ) → ((k : ℕ) → k < n → f k ≤ m) → sum n f ≤ n * m
+sum-most n m f h = omega (arith, sum-below n f (λ k. m) h, sum-constant n m)
+
+pub sum-least : (n : ℕ) (f : ℕ → ℕ) → ((k : ℕ) → k < n → 0 < f k) → n ≤ sum n f
+unfolding sum
+sum-least zero f h = omega arith
+sum-least (suc n) f h = omega (arith, sum-least n f (λ k l. h k (omega arith)), h n (omega arith))
+
+-- two sums are one
+pub sum-both : (n : ℕ) (f g : ℕ → ℕ) → sum n (λ k. f k + g k) ≡ sum n f + sum n g
+unfolding sum
+sum-both zero f g = refl
+sum-both (suc n) f g = omega (arith, sum-both n f g)
+
+-- what is summed over two numbers may be summed over either first
+pub sum-swap : (n m : ℕ) (f : ℕ → ℕ → ℕ) → sum n (λ i. sum m (λ j. f i j)) ≡ sum m (λ j. sum n (λ i. f i j))
+unfolding sum
+sum-swap zero m f = sym (sum-same m _ _ (λ k l. refl) ∙ sum-constant m 0 ∙ mul-zero m)
+sum-swap (suc n) m f = rw (sum-swap n m f) (sym (sum-both m (λ j. sum n (λ i. f i j)) (λ j. f n j)))
+
+-- ---- lengths
+
+module _ {A : Type 0} where
+  pub length-each : (n : ℕ) (f : ℕ → List A) → length (each n f) ≡ sum n (λ k. length (f k))
+  unfolding each sum
+  length-each zero f = refl
+  length-each (suc n) f = rw (length-append, length-each n f)
+
+  pub length-pairs : (n : ℕ) (f : ℕ → ℕ → List A) → length (pairs n f) ≡ sumPairs n (λ i j. length (f i j))
+  unfolding pairs sumPairs
+  length-pairs n f = length-each n _ ∙ sum-same n _ _ (λ i h. length-each (n - suc i) _)
+
+  pub length-product : (n : ℕ) (f : ℕ → ℕ → List A) → length (product n f) ≡ sum n (λ i. sum n (λ j. length (f i j)))
+  unfolding product
+  length-product n f = length-each n _ ∙ sum-same n _ _ (λ i h. length-each n _)

@@ -1,0 +1,4 @@
+pub mod SoundLines
+pub mod Bounds
+pub mod Parts
+pub mod Palettes
