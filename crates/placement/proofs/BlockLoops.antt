@@ -1,7 +1,7 @@
 -- The loops over the blocks of a line, given its words in the table and the words of its clue.
-use mathlib.Core.Path.{_≡_, refl, sym, ap, _∙_}
+use mathlib.Core.Path.{_≡_, _∙_}
 use mathlib.Core.List.{List, [], _∷_}
-use Prim.Native.Nat.{ℕ, zero, suc, _+_, _-_, _*_, _/_, _≤_, _<_}
+use Prim.Native.Nat.{ℕ, _+_, _-_, _*_, _/_, _≤_, _<_}
 use native.Mathlib.Omega.{arith}
 use native.Mathlib.Numerals.{add-one}
 use lib.IntN.{ℤ}
@@ -9,17 +9,22 @@ use lib.ListN.{length, getD}
 use Rattle.lists.specs.Each.{each, tab}
 use Rattle.lists.specs.Wrote.{Wrote}
 use Rattle.lists.proofs.Emitting.{Emitting}
+use Rattle.literals.specs.Literals.{largest}
 use Rattle.sections.specs.Sections.{Clause, clausesWords, atLeastOne, atMostOne}
 use Rattle.sections.proofs.ClauseLists.{say-first, say-done}
-use Rattle.lines.specs.Clue.{gap, end}
+use Rattle.lines.specs.Clue.{gap}
 use Rattle.lines.specs.Arrangement.{at, distance}
 use Rattle.numbering.specs.Variables.{Line, many, firstOf}
 use Rattle.numbering.specs.Tables.{Sound, lineOf}
+use Rattle.numbering.proofs.SoundLines.{sound-shared, sound-some, sound-least, sound-most, sound-within, sound-apart, of-many, of-run, of-first, of-positions}
 use Rattle.placement.specs.Placement.{blockPositions, blockOnce, nonOverlap}
 use Rattle.placement.specs.PairRows.{apart, rowsFrom, laterRows}
 use Rattle.placement.proofs.LateLoops.{EmittingFrom, say-from, say-from-done}
-use Rattle.placement.proofs.LineFacts.{many-most, first-some, block-within, end-before, end-most, many-is, run-is}
 use Rattle.placement.proofs.RowLaw.{non-overlap-later}
+
+-- the n variables from v on are some
+abbrev pub InRange : ℕ → ℕ → Type 0
+InRange v n = (0 < v) × (v + n ≤ largest + 1)
 
 -- the words of a pair of blocks: those of the later one are there, and the earlier one ends before it starts
 pub record PairWords (line clue : List ℕ) (a b : ℕ) : Type 0 where
@@ -33,39 +38,44 @@ module _ (line clue : List ℕ) (S : Sound (lineOf line clue)) where
   abbrev L : Line
   L = lineOf line clue
 
-  module _ (a b : ℕ) (h : a < b) (l : b < many L) where
+  module _ (a b : ℕ) (h : a < b) (below : b < length clue / 2) where
+    l : b < many L
+    l = omega (arith, of-many line clue)
+
     pub pair-words : PairWords line clue a b
     pair-words =
-        let m = many-is line clue in
-        let ra = run-is line clue a (omega arith) in
-        let rb = run-is line clue b (omega arith) in
+        let ra = of-run line clue a (omega (arith, l)) in
+        let rb = of-run line clue b l in
         record {
           order = h;
-          few = omega (arith, many-most S);
+          few = omega (arith, l, sound-shared S, sound-some S);
           words-within = omega arith;
-          ends = rw (ra, rb) at (end-before S a b h l);
-          starts = omega (arith, rw rb at (end-most S b l));
+          ends = omega (arith, rw (ra, rb) at (sound-apart S a b h l));
+          starts = omega (arith, rw rb at (sound-within S b l 0 (sound-some S)));
         }
 
     pub apart-is : getD line (4 + b) 0 - (getD line (4 + a) 0 + getD clue (2 * a) 0) + 1 - gap (getD clue (2 * a + 1) 0) (getD clue (2 * b + 1) 0) ≡ apart L a b
     unfolding distance
-    apart-is = rw (run-is line clue a (omega (arith, many-is line clue)), run-is line clue b (omega (arith, many-is line clue)))
+    apart-is = rw (of-run line clue a (omega (arith, l)), of-run line clue b l)
 
   -- ---- its first variable and its positions, as they are read
 
   module _ {first p : ℕ} (fe : first ≡ getD line 1 0) (pe : p ≡ getD line 2 0) where
-    pub variables-some : (b : ℕ) → 0 < first + b * p
-    unfolding lineOf
-    variables-some b = omega (arith, fe, S .least)
+    first-is : first ≡ L .first
+    first-is = fe ∙ of-first line clue
 
-    pub variables-most : (b : ℕ) → b < length clue / 2 → first + b * p + p ≤ 262145
-    unfolding lineOf
-    variables-most b h = rw (fe, pe) (block-within S b (omega (arith, many-is line clue)))
+    positions-is : p ≡ L .positions
+    positions-is = pe ∙ of-positions line clue
+
+    -- the variables of a block
+    pub in-range : (b : ℕ) → b < length clue / 2 → InRange (first + b * p) p
+    in-range b h =
+        let l : b < many L = omega (arith, of-many line clue) in
+        rw (first-is, positions-is) (sound-least S b l, omega (arith, sound-most S b l))
 
     module _ (g : ℕ → ℕ → List Clause) where
       blocks-are : each (many L) (λ b. g (firstOf L b) (L .positions)) ≡ each (length clue / 2) (λ b. g (first + b * p) p)
-      unfolding lineOf
-      blocks-are = rw (many-is line clue, fe, pe)
+      blocks-are = rw (of-many line clue, first-is, positions-is)
 
       blocks-first : (out : List ℤ) (to : ℕ) → to + length (clausesWords (each (many L) (λ b. g (firstOf L b) (L .positions)))) ≤ length out
           → Emitting (length clue / 2) (λ b. clausesWords (g (first + b * p) p)) out to out to 0
@@ -97,8 +107,8 @@ module _ (line clue : List ℕ) (S : Sound (lineOf line clue)) where
 
     module _ (a : ℕ) where
       later-are : laterRows L a ≡ each (length clue / 2 - (a + 1)) (λ k. rowsFrom (first + a * p) (first + (a + 1 + k) * p) (apart L a (a + 1 + k)) p)
-      unfolding laterRows lineOf
-      later-are = rw (many-is line clue, fe, pe, add-one a)
+      unfolding laterRows
+      later-are = rw (of-many line clue, first-is, positions-is, add-one a)
 
       pub later-first : (out : List ℤ) (to : ℕ) → to + length (clausesWords (laterRows L a)) ≤ length out
           → EmittingFrom (a + 1) (length clue / 2) (λ b. clausesWords (rowsFrom (first + a * p) (first + b * p) (apart L a b) p)) out to out to (a + 1)
@@ -111,7 +121,7 @@ module _ (line clue : List ℕ) (S : Sound (lineOf line clue)) where
   -- ---- each block with the later ones
 
   overlaps-are : nonOverlap L ≡ each (length clue / 2) (laterRows L)
-  overlaps-are = rw (← many-is line clue) (non-overlap-later S)
+  overlaps-are = rw (← of-many line clue) (non-overlap-later S)
 
   pub overlaps-first : (out : List ℤ) (to : ℕ) → to + length (clausesWords (nonOverlap L)) ≤ length out → Emitting (length clue / 2) (λ a. clausesWords (laterRows L a)) out to out to 0
   overlaps-first out to h = say-first (length clue / 2) _ out to (rw (← overlaps-are) h)

@@ -1,6 +1,6 @@
 -- The law of the row: document 01's conflicts of a pair of blocks, as clauses of one position with the first positions of the later block.
-use mathlib.Core.Path.{_≡_, refl, sym, ap, _∙_}
-use mathlib.Core.Bool.{Bool, true, false}
+use mathlib.Core.Path.{_≡_, _∙_}
+use mathlib.Core.Bool.{Bool}
 use mathlib.Core.List.{List, [], _∷_}
 use Prim.Native.Nat.{ℕ, suc, _+_, _-_, _≤_, _<_}
 use native.Mathlib.Omega.{arith}
@@ -12,15 +12,11 @@ use Rattle.lists.specs.Each.{each, tab, pairs, product, when}
 use Rattle.lists.specs.Wrote.{Wrote}
 use Rattle.lists.proofs.Eaches.{each-same}
 use Rattle.sections.specs.Sections.{clausesWords, notBoth, row}
-use Rattle.lines.specs.Clue.{gap}
-use Rattle.lines.specs.Arrangement.{at, clash, distance}
-use Rattle.lines.proofs.Packing.{base-gap, packed-length}
-use Rattle.lines.proofs.Moving.{clash-is, distance-some}
-use Rattle.numbering.specs.Variables.{Line, many, placedAt, firstOf, variable}
+use Rattle.numbering.specs.Variables.{Line, many, firstOf, variable}
 use Rattle.numbering.specs.Tables.{Sound}
+use Rattle.numbering.proofs.SoundLines.{sound-distance, sound-clash}
 use Rattle.placement.specs.Placement.{nonOverlap}
 use Rattle.placement.specs.PairRows.{apart, rowsFrom, pairRows, laterRows}
-use Rattle.placement.proofs.LineFacts.{apart-some, clash-when}
 use Rattle.placement.proofs.LateLoops.{each-late, each-early, EmittingFrom, say-from, say-from-done}
 
 pub row-none : (x y n : ℕ) → n ≡ 0 → row x y n ≡ []
@@ -58,8 +54,8 @@ module _ {L : Line} (S : Sound L) where
       each-same (many L - suc a) _ _ (λ k l.
       let m : suc a + k < many L = omega arith in
       each-same (L .positions) _ _ (λ i n.
-      row-is (L .positions) (apart L a (suc a + k)) i (variable L a i) (firstOf L (suc a + k)) _ (apart-some S a (suc a + k) (omega arith) m) n
-      (clash-when S a (suc a + k) (omega arith) m i))))
+      row-is (L .positions) (apart L a (suc a + k)) i (variable L a i) (firstOf L (suc a + k)) _ (sound-distance S a (suc a + k) (omega arith) m) n
+      (sound-clash S a (suc a + k) (omega arith) m i))))
 
   -- block by block
   pub non-overlap-later : nonOverlap L ≡ each (many L) (laterRows L)

@@ -41,13 +41,7 @@ fn block_once_clauses(line: &[u32], clue: &[u32], out: &mut [i32], at: usize) ->
     to
 }
 
-pub fn line_clauses(
-    rule: Rule,
-    line: &[u32],
-    clue: &[u32],
-    out: &mut [i32],
-    at: usize,
-) -> usize
+pub fn line_clauses(rule: Rule, line: &[u32], clue: &[u32], out: &mut [i32], at: usize) -> usize
     requires { ⌜ Sound (lineOf (now line) (now clue)) × (68 ≤ length (now line)) ⌝ }
     requires { ⌜ at + length (clausesWords (ruled rule (lineOf (now line) (now clue)))) ≤ length (now out) ⌝ }
     ensures { λ r. ⌜ Wrote (clausesWords (ruled rule (lineOf (now (line .entry)) (now (clue .entry))))) (now (out .entry)) at (now (out .exit)) r ⌝ }

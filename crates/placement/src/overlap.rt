@@ -3,12 +3,11 @@ use lines::gap::gap;
 use lists::wide;
 use sections::put_row;
 ghost use mathlib.Core.Path.{_≡_};
-ghost use Prim.Native.Nat.{_+_, _≤_, _<_};
+ghost use Prim.Native.Nat.{_+_, _/_, _≤_, _<_};
 ghost use lib.ListN.{length};
 ghost use Rattle.lists.specs.Wrote.{Wrote};
 ghost use Rattle.literals.specs.Literals.{largest};
 ghost use Rattle.sections.specs.Sections.{clausesWords};
-ghost use Rattle.numbering.specs.Variables.{many};
 ghost use Rattle.numbering.specs.Tables.{Sound, lineOf};
 ghost use Rattle.placement.specs.Placement.{nonOverlap};
 ghost use Rattle.placement.specs.PairRows.{apart, rowsFrom, laterRows};
@@ -16,7 +15,7 @@ ghost use Rattle.placement.specs.PairRows.{apart, rowsFrom, laterRows};
 // How far block a must be ahead of the later block b to meet it.
 pub fn distance(line: &[u32], clue: &[u32], a: usize, b: usize) -> usize
     requires { ⌜ Sound (lineOf (now line) (now clue)) × (68 ≤ length (now line)) ⌝ }
-    requires { ⌜ (a < b) × (b < many (lineOf (now line) (now clue))) ⌝ }
+    requires { ⌜ (a < b) × (b < length (now clue) / 2) ⌝ }
     ensures { λ r. ⌜ r ≡ apart (lineOf (now (line .entry)) (now (clue .entry))) a b ⌝ }
 {
     let end = wide(line[4 + a]) + wide(clue[2 * a]);
@@ -39,7 +38,7 @@ fn put_rows(va: usize, vb: usize, d: usize, p: usize, out: &mut [i32], at: usize
 // Block a with each later one.
 fn later_clauses(a: usize, line: &[u32], clue: &[u32], out: &mut [i32], at: usize) -> usize
     requires { ⌜ Sound (lineOf (now line) (now clue)) × (68 ≤ length (now line)) ⌝ }
-    requires { ⌜ a < many (lineOf (now line) (now clue)) ⌝ }
+    requires { ⌜ a < length (now clue) / 2 ⌝ }
     requires { ⌜ at + length (clausesWords (laterRows (lineOf (now line) (now clue)) a)) ≤ length (now out) ⌝ }
     ensures { λ r. ⌜ Wrote (clausesWords (laterRows (lineOf (now (line .entry)) (now (clue .entry))) a)) (now (out .entry)) at (now (out .exit)) r ⌝ }
 {

@@ -1,18 +1,12 @@
-use mathlib.Core.List.{[], _∷_}
 use Prim.Native.Nat.{_+_, _-_, _*_, _/_}
 use native.Mathlib.Omega.{arith}
 use lib.ListN.{length}
 use Rattle.lists.proofs.Emitting.{Emitting, emit-room, emit-next, emit-kept}
-use Rattle.sections.specs.Sections.{clausesWords, atLeastOne, atMostOne}
-use Rattle.sections.proofs.ClauseLists.{said, clauses-one}
-use Rattle.placement.proofs.BlockLoops.{variables-some, variables-most, once-first, once-done}
+use Rattle.sections.specs.Sections.{clausesWords, atMostOne}
+use Rattle.placement.proofs.BlockLoops.{InRange, in-range, once-first, once-done}
 use borrow.Author.Needs.{needs}
 use Rattle.placement.proofs.line.block_once_clauses.Statement.{statement}
 use Rattle.placement.proofs.line.block_once_clauses.Tie as tie
-use Rattle.placement.proofs.line.block_once_clauses.Reads as reads
-use Rattle.placement.proofs.line.block_once_clauses.Lts as lts
-use Rattle.lists.proofs.wide.Reads as wide-reads
-use Rattle.sections.proofs.at_most_one.Reads as at-most-one-reads
 
 abbrev Inv-loop : tie.InvT-loop
 Inv-loop line clue out₀ at first p to₀ b₀ b-end out to b = Emitting (length clue / 2) (λ k. clausesWords (atMostOne (first + k * p) p)) out₀ at out to b
@@ -20,44 +14,8 @@ Inv-loop line clue out₀ at first p to₀ b₀ b-end out to b = Emitting (lengt
 abbrev μ-loop : tie.MeasureT-loop
 μ-loop line clue out₀ at first p to₀ b₀ b-end out to b = length clue / 2 - b
 
-shared-slice-read-wide : tie.Need-shared-slice-read-wide Inv-loop μ-loop
-shared-slice-read-wide c = search needs
-
-wide-requires : tie.Need-wide-requires Inv-loop μ-loop
-wide-requires c κs = search needs
-
-shared-slice-read-wide-2 : tie.Need-shared-slice-read-wide-2 Inv-loop μ-loop
-shared-slice-read-wide-2 c = search needs
-
-wide-requires-2 : tie.Need-wide-requires-2 Inv-loop μ-loop
-wide-requires-2 c κs = search needs
-
-loop-holds : tie.Need-loop-holds Inv-loop μ-loop
-loop-holds c = once-first _ _ (c .before .before .before .before .before .before .pre .0 .0) (c .before .before .wide .ensures) (c .wide2 .ensures) _ _ (c .before .before .before .before .before .before .pre .1)
-
-mul-at-most-one : tie.Need-mul-at-most-one Inv-loop μ-loop
-mul-at-most-one c = omega (arith, variables-most _ _ (c .before .before .before .before .before .before .before .before .pre .0 .0) (c .before .before .before .before .wide .ensures) (c .before .before .wide2 .ensures) _ (c .loop-test .taken))
-
-add-at-most-one : tie.Need-add-at-most-one Inv-loop μ-loop
-add-at-most-one c = omega (arith, variables-most _ _ (c .before .before .before .before .before .before .before .before .pre .0 .0) (c .before .before .before .before .wide .ensures) (c .before .before .wide2 .ensures) _ (c .loop-test .taken))
-
-at-most-one-requires : tie.Need-at-most-one-requires Inv-loop μ-loop
-at-most-one-requires c κs = ((variables-some _ _ (c .before .before .before .before .before .before .before .before .before .pre .0 .0) (c .before .before .before .before .before .wide .ensures) (c .before .before .before .wide2 .ensures) _, omega (arith, variables-most _ _ (c .before .before .before .before .before .before .before .before .before .pre .0 .0) (c .before .before .before .before .before .wide .ensures) (c .before .before .before .wide2 .ensures) _ (c .before .loop-test .taken))), emit-room (c .before .before .loop .inv) (c .before .loop-test .taken))
-
-add-b : tie.Need-add-b Inv-loop μ-loop
-add-b c = search needs
-
-loop-less : tie.Need-loop-less Inv-loop μ-loop
-loop-less c = search needs
-
-loop-again : tie.Need-loop-again Inv-loop μ-loop
-loop-again c = emit-next (c .before .before .before .before .loop .inv) (c .before .before .before .loop-test .taken) (c .before .at-most-one .ensures)
-
-same-length : tie.Need-same-length Inv-loop μ-loop
-same-length c = emit-kept (c .before .loop .inv)
-
-returns : tie.Need-returns Inv-loop μ-loop
-returns c = once-done _ _ (c .before .before .before .before .before .before .before .before .pre .0 .0) (c .before .before .before .before .wide .ensures) (c .before .before .wide2 .ensures) (c .before .loop .inv) (c .loop-test .left)
+in-block : (c : tie.In-loop Inv-loop μ-loop) → InRange (c .before .before .before .before .wide .result + c .before .loop .b * c .before .before .wide2 .result) (c .before .before .wide2 .result)
+in-block c = in-range _ _ (c .before .before .before .before .before .before .before .before .pre .0 .0) (c .before .before .before .before .wide .ensures) (c .before .before .wide2 .ensures) _ (c .loop-test .taken)
 
 pub block-once-clauses-spec : {M : Type 1} → statement M
 block-once-clauses-spec =
@@ -65,16 +23,16 @@ block-once-clauses-spec =
     (tie.spec
     Inv-loop
     μ-loop
-    shared-slice-read-wide
-    wide-requires
-    shared-slice-read-wide-2
-    wide-requires-2
-    loop-holds
-    mul-at-most-one
-    add-at-most-one
-    at-most-one-requires
-    add-b
-    loop-less
-    loop-again
-    same-length
-    returns)
+    (λ c. search needs)
+    (λ c κs. search needs)
+    (λ c. search needs)
+    (λ c κs. search needs)
+    (λ c. once-first _ _ (c .before .before .before .before .before .before .pre .0 .0) (c .before .before .wide .ensures) (c .wide2 .ensures) _ _ (c .before .before .before .before .before .before .pre .1))
+    (λ c. omega (arith, in-block c))
+    (λ c. omega (arith, in-block c))
+    (λ c κs. (in-block (c .before), emit-room (c .before .before .loop .inv) (c .before .loop-test .taken)))
+    (λ c. search needs)
+    (λ c. search needs)
+    (λ c. emit-next (c .before .before .before .before .loop .inv) (c .before .before .before .loop-test .taken) (c .before .at-most-one .ensures))
+    (λ c. emit-kept (c .before .loop .inv))
+    (λ c. once-done _ _ (c .before .before .before .before .before .before .before .before .pre .0 .0) (c .before .before .before .before .wide .ensures) (c .before .before .wide2 .ensures) (c .before .loop .inv) (c .loop-test .left)))

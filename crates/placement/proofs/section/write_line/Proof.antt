@@ -1,85 +1,40 @@
+use Prim.Native.Nat.{_+_, _≤_, _<_}
+use lib.ListN.{length}
+use Rattle.placement.proofs.SectionLoops.{line-long}
+use native.Mathlib.Omega.{arith}
+use Rattle.numbering.proofs.Parts.{ready-sound, ready-low, ready-within, ready-line}
 use borrow.Author.Needs.{needs}
 use Rattle.placement.proofs.section.write_line.Statement.{statement}
 use Rattle.placement.proofs.section.write_line.Tie as tie
-use Rattle.placement.proofs.section.write_line.Reads as reads
-use Rattle.placement.proofs.section.write_line.Lts as lts
-use Rattle.boards.proofs.table.clue_end.Reads as clue-end-reads
-use Rattle.lists.proofs.wide.Reads as wide-reads
-use Rattle.placement.proofs.line.line_clauses.Reads as line-clauses-reads
 
-mul-row : tie.Need-mul-row
-mul-row c = search needs
+low : (c : tie.Start) → c .args .l < 128
+low c = ready-low _ _ (c .pre .0 .0) _ (c .pre .0 .1)
 
-mul-wide : tie.Need-mul-wide
-mul-wide c = search needs
-
-shared-slice-read-wide : tie.Need-shared-slice-read-wide
-shared-slice-read-wide c = search needs
-
-wide-requires : tie.Need-wide-requires
-wide-requires c κs = search needs
-
-clue-end-requires : tie.Need-clue-end-requires
-clue-end-requires c κs = search needs
-
-add-line-clauses : tie.Need-add-line-clauses
-add-line-clauses c = search needs
-
-mul-line-clauses : tie.Need-mul-line-clauses
-mul-line-clauses c = search needs
-
-sub-line-clauses : tie.Need-sub-line-clauses
-sub-line-clauses c = search needs
-
-part-line-clauses-start : tie.Need-part-line-clauses-start
-part-line-clauses-start c = search needs
-
-part-line-clauses-end : tie.Need-part-line-clauses-end
-part-line-clauses-end c = search needs
-
-add-line-clauses-2 : tie.Need-add-line-clauses-2
-add-line-clauses-2 c = search needs
-
-mul-line-clauses-2 : tie.Need-mul-line-clauses-2
-mul-line-clauses-2 c = search needs
-
-sub-line-clauses-2 : tie.Need-sub-line-clauses-2
-sub-line-clauses-2 c = search needs
-
-part-line-clauses-start-2 : tie.Need-part-line-clauses-start-2
-part-line-clauses-start-2 c = search needs
-
-part-line-clauses-end-2 : tie.Need-part-line-clauses-end-2
-part-line-clauses-end-2 c = search needs
-
-line-clauses-requires : tie.Need-line-clauses-requires
-line-clauses-requires c κs = search needs
-
-same-length : tie.Need-same-length
-same-length c = search needs
-
-returns : tie.Need-returns
-returns c = search needs
+inside : (c : tie.After-clue-end) → (c .before .wide .result + 1 ≤ c .clue-end .result) × (c .clue-end .result ≤ length (c .before .before .before .before .before .args .words .now))
+inside c =
+    let h = ready-within _ _ (c .before .before .before .before .before .pre .0 .0) _ (c .before .before .before .before .before .pre .0 .1) (c .before .wide .ensures) in
+    (omega (arith, c .clue-end .ensures), omega (arith, c .clue-end .ensures))
 
 pub write-line-spec : {M : Type 1} → statement M
 write-line-spec =
     tie.close
     (tie.spec
-    mul-row
-    mul-wide
-    shared-slice-read-wide
-    wide-requires
-    clue-end-requires
-    add-line-clauses
-    mul-line-clauses
-    sub-line-clauses
-    part-line-clauses-start
-    part-line-clauses-end
-    add-line-clauses-2
-    mul-line-clauses-2
-    sub-line-clauses-2
-    part-line-clauses-start-2
-    part-line-clauses-end-2
-    line-clauses-requires
-    same-length
-    returns)
+    (λ c. omega (arith, low (c .before .before)))
+    (λ c. omega (arith, low (c .before .before)))
+    (λ c. omega (arith, low (c .before .before .before)))
+    (λ c κs. search needs)
+    (λ c κs. ready-within _ _ (c .before .before .before .before .pre .0 .0) _ (c .before .before .before .before .pre .0 .1) (c .wide .ensures))
+    (λ c. omega (arith, low (c .before .before .before .before .before)))
+    (λ c. omega (arith, low (c .before .before .before .before .before)))
+    (λ c. omega (arith, low (c .before .before .before .before .before)))
+    (λ c. omega (arith, low (c .before .before .before .before .before)))
+    (λ c. omega (arith, low (c .before .before .before .before .before)))
+    (λ c. omega (arith, inside (c .before)))
+    (λ c. omega (arith, inside (c .before)))
+    (λ c. omega (arith, inside (c .before)))
+    (λ c. omega (arith, inside (c .before)))
+    (λ c. omega (arith, inside (c .before)))
+    (λ c κs. let e = ready-line _ _ (c .before .before .before .before .before .before .before .before .pre .0 .0) _ (c .before .before .before .before .before .before .before .before .pre .0 .1) (c .before .before .before .before .wide .ensures) (c .before .before .before .clue-end .ensures) in
+    ((rw e (ready-sound _ _ (c .before .before .before .before .before .before .before .before .pre .0 .0) _ (c .before .before .before .before .before .before .before .before .pre .0 .1)), line-long _ _ (c .before .before .before .before .before .before .before .before .pre .0 .0) _ (c .before .before .before .before .before .before .before .before .pre .0 .1)), rw e (c .before .before .before .before .before .before .before .before .pre .1)))
+    (λ c. search needs)
+    (λ c. rw (ready-line _ _ (c .before .before .before .before .before .before .before .before .before .before .pre .0 .0) _ (c .before .before .before .before .before .before .before .before .before .before .pre .0 .1) (c .before .before .before .before .before .before .wide .ensures) (c .before .before .before .before .before .clue-end .ensures)) at (c .before .line-clauses .ensures)))
