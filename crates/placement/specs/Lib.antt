@@ -1,1 +1,2 @@
 pub mod Placement
+pub mod PairRows

@@ -1,0 +1,130 @@
+-- The loops over the blocks of a line, given its words in the table and the words of its clue.
+use mathlib.Core.Path.{_≡_, _∙_}
+use mathlib.Core.List.{List, [], _∷_}
+use Prim.Native.Nat.{ℕ, _+_, _-_, _*_, _/_, _≤_, _<_}
+use native.Mathlib.Omega.{arith}
+use native.Mathlib.Numerals.{add-one}
+use lib.IntN.{ℤ}
+use lib.ListN.{length, getD}
+use Rattle.lists.specs.Each.{each, tab}
+use Rattle.lists.specs.Wrote.{Wrote}
+use Rattle.lists.proofs.Emitting.{Emitting}
+use Rattle.literals.specs.Literals.{largest}
+use Rattle.sections.specs.Sections.{Clause, clausesWords, atLeastOne, atMostOne}
+use Rattle.sections.proofs.ClauseLists.{say-first, say-done}
+use Rattle.lines.specs.Clue.{gap}
+use Rattle.lines.specs.Arrangement.{at, distance}
+use Rattle.numbering.specs.Variables.{Line, many, firstOf}
+use Rattle.numbering.specs.Tables.{Sound, lineOf}
+use Rattle.numbering.proofs.SoundLines.{sound-shared, sound-some, sound-least, sound-most, sound-within, sound-apart, of-many, of-run, of-first, of-positions}
+use Rattle.placement.specs.Placement.{blockPositions, blockOnce, nonOverlap}
+use Rattle.placement.specs.PairRows.{apart, rowsFrom, laterRows}
+use Rattle.placement.proofs.LateLoops.{EmittingFrom, say-from, say-from-done}
+use Rattle.placement.proofs.RowLaw.{non-overlap-later}
+
+-- the n variables from v on are some
+abbrev pub InRange : ℕ → ℕ → Type 0
+InRange v n = (0 < v) × (v + n ≤ largest + 1)
+
+-- the words of a pair of blocks: those of the later one are there, and the earlier one ends before it starts
+pub record PairWords (line clue : List ℕ) (a b : ℕ) : Type 0 where
+  pub order : a < b
+  pub few : b < 64
+  pub words-within : 2 * b + 1 < length clue
+  pub ends : getD line (4 + a) 0 + getD clue (2 * a) 0 ≤ getD line (4 + b) 0
+  pub starts : getD line (4 + b) 0 ≤ 64
+
+module _ (line clue : List ℕ) (S : Sound (lineOf line clue)) where
+  abbrev L : Line
+  L = lineOf line clue
+
+  module _ (a b : ℕ) (h : a < b) (below : b < length clue / 2) where
+    l : b < many L
+    l = omega (arith, of-many line clue)
+
+    pub pair-words : PairWords line clue a b
+    pair-words =
+        let ra = of-run line clue a (omega (arith, l)) in
+        let rb = of-run line clue b l in
+        record {
+          order = h;
+          few = omega (arith, l, sound-shared S, sound-some S);
+          words-within = omega arith;
+          ends = omega (arith, rw (ra, rb) at (sound-apart S a b h l));
+          starts = omega (arith, rw rb at (sound-within S b l 0 (sound-some S)));
+        }
+
+    pub apart-is : getD line (4 + b) 0 - (getD line (4 + a) 0 + getD clue (2 * a) 0) + 1 - gap (getD clue (2 * a + 1) 0) (getD clue (2 * b + 1) 0) ≡ apart L a b
+    unfolding distance
+    apart-is = rw (of-run line clue a (omega (arith, l)), of-run line clue b l)
+
+  -- ---- its first variable and its positions, as they are read
+
+  module _ {first p : ℕ} (fe : first ≡ getD line 1 0) (pe : p ≡ getD line 2 0) where
+    first-is : first ≡ L .first
+    first-is = fe ∙ of-first line clue
+
+    positions-is : p ≡ L .positions
+    positions-is = pe ∙ of-positions line clue
+
+    -- the variables of a block
+    pub in-range : (b : ℕ) → b < length clue / 2 → InRange (first + b * p) p
+    in-range b h =
+        let l : b < many L = omega (arith, of-many line clue) in
+        rw (first-is, positions-is) (sound-least S b l, omega (arith, sound-most S b l))
+
+    module _ (g : ℕ → ℕ → List Clause) where
+      blocks-are : each (many L) (λ b. g (firstOf L b) (L .positions)) ≡ each (length clue / 2) (λ b. g (first + b * p) p)
+      blocks-are = rw (of-many line clue, first-is, positions-is)
+
+      blocks-first : (out : List ℤ) (to : ℕ) → to + length (clausesWords (each (many L) (λ b. g (firstOf L b) (L .positions)))) ≤ length out
+          → Emitting (length clue / 2) (λ b. clausesWords (g (first + b * p) p)) out to out to 0
+      blocks-first out to h = say-first (length clue / 2) _ out to (rw (← blocks-are) h)
+
+      blocks-done : {out₀ out : List ℤ} {to₀ to b : ℕ} → Emitting (length clue / 2) (λ b. clausesWords (g (first + b * p) p)) out₀ to₀ out to b → length clue / 2 ≤ b
+          → Wrote (clausesWords (each (many L) (λ b. g (firstOf L b) (L .positions)))) out₀ to₀ out to
+      blocks-done E h = rw blocks-are (say-done (length clue / 2) _ E h)
+
+    pub positions-first : (out : List ℤ) (to : ℕ) → to + length (clausesWords (blockPositions L)) ≤ length out
+        → Emitting (length clue / 2) (λ b. clausesWords (atLeastOne (first + b * p) p ∷ [])) out to out to 0
+    unfolding blockPositions tab
+    positions-first = blocks-first (λ v n. atLeastOne v n ∷ [])
+
+    pub positions-done : {out₀ out : List ℤ} {to₀ to b : ℕ} → Emitting (length clue / 2) (λ b. clausesWords (atLeastOne (first + b * p) p ∷ [])) out₀ to₀ out to b → length clue / 2 ≤ b
+        → Wrote (clausesWords (blockPositions L)) out₀ to₀ out to
+    unfolding blockPositions tab
+    positions-done E h = blocks-done (λ v n. atLeastOne v n ∷ []) E h
+
+    pub once-first : (out : List ℤ) (to : ℕ) → to + length (clausesWords (blockOnce L)) ≤ length out
+        → Emitting (length clue / 2) (λ b. clausesWords (atMostOne (first + b * p) p)) out to out to 0
+    unfolding blockOnce
+    once-first = blocks-first atMostOne
+
+    pub once-done : {out₀ out : List ℤ} {to₀ to b : ℕ} → Emitting (length clue / 2) (λ b. clausesWords (atMostOne (first + b * p) p)) out₀ to₀ out to b → length clue / 2 ≤ b
+        → Wrote (clausesWords (blockOnce L)) out₀ to₀ out to
+    unfolding blockOnce
+    once-done E h = blocks-done atMostOne E h
+
+    module _ (a : ℕ) where
+      later-are : laterRows L a ≡ each (length clue / 2 - (a + 1)) (λ k. rowsFrom (first + a * p) (first + (a + 1 + k) * p) (apart L a (a + 1 + k)) p)
+      unfolding laterRows
+      later-are = rw (of-many line clue, first-is, positions-is, add-one a)
+
+      pub later-first : (out : List ℤ) (to : ℕ) → to + length (clausesWords (laterRows L a)) ≤ length out
+          → EmittingFrom (a + 1) (length clue / 2) (λ b. clausesWords (rowsFrom (first + a * p) (first + b * p) (apart L a b) p)) out to out to (a + 1)
+      later-first out to h = say-from (a + 1) (length clue / 2) (λ b. rowsFrom (first + a * p) (first + b * p) (apart L a b) p) out to (rw (← later-are) h)
+
+      pub later-done : {out₀ out : List ℤ} {to₀ to b : ℕ} → EmittingFrom (a + 1) (length clue / 2) (λ b. clausesWords (rowsFrom (first + a * p) (first + b * p) (apart L a b) p)) out₀ to₀ out to b
+          → length clue / 2 ≤ b → Wrote (clausesWords (laterRows L a)) out₀ to₀ out to
+      later-done E h = rw later-are (say-from-done (a + 1) (length clue / 2) (λ b. rowsFrom (first + a * p) (first + b * p) (apart L a b) p) E h)
+
+  -- ---- each block with the later ones
+
+  overlaps-are : nonOverlap L ≡ each (length clue / 2) (laterRows L)
+  overlaps-are = rw (← of-many line clue) (non-overlap-later S)
+
+  pub overlaps-first : (out : List ℤ) (to : ℕ) → to + length (clausesWords (nonOverlap L)) ≤ length out → Emitting (length clue / 2) (λ a. clausesWords (laterRows L a)) out to out to 0
+  overlaps-first out to h = say-first (length clue / 2) _ out to (rw (← overlaps-are) h)
+
+  pub overlaps-done : {out₀ out : List ℤ} {to₀ to a : ℕ} → Emitting (length clue / 2) (λ a. clausesWords (laterRows L a)) out₀ to₀ out to a → length clue / 2 ≤ a → Wrote (clausesWords (nonOverlap L)) out₀ to₀ out to
+  overlaps-done E h = rw overlaps-are (say-done (length clue / 2) _ E h)

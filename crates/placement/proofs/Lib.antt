@@ -1,0 +1,4 @@
+pub mod BlockLoops
+pub mod LateLoops
+pub mod RowLaw
+pub mod SectionLoops

@@ -1,0 +1,65 @@
+// Families 5 and 6, of one line: two blocks are not in conflict.
+use lines::gap::gap;
+use lists::wide;
+use sections::put_row;
+ghost use mathlib.Core.Path.{_≡_};
+ghost use Prim.Native.Nat.{_+_, _/_, _≤_, _<_};
+ghost use lib.ListN.{length};
+ghost use Rattle.lists.specs.Wrote.{Wrote};
+ghost use Rattle.literals.specs.Literals.{largest};
+ghost use Rattle.sections.specs.Sections.{clausesWords};
+ghost use Rattle.numbering.specs.Tables.{Sound, lineOf};
+ghost use Rattle.placement.specs.Placement.{nonOverlap};
+ghost use Rattle.placement.specs.PairRows.{apart, rowsFrom, laterRows};
+
+// How far block a must be ahead of the later block b to meet it.
+pub fn distance(line: &[u32], clue: &[u32], a: usize, b: usize) -> usize
+    requires { ⌜ Sound (lineOf (now line) (now clue)) × (68 ≤ length (now line)) ⌝ }
+    requires { ⌜ (a < b) × (b < length (now clue) / 2) ⌝ }
+    ensures { λ r. ⌜ r ≡ apart (lineOf (now (line .entry)) (now (clue .entry))) a b ⌝ }
+{
+    let end = wide(line[4 + a]) + wide(clue[2 * a]);
+    wide(line[4 + b]) - end + 1 - wide(gap(clue[2 * a + 1], clue[2 * b + 1]))
+}
+
+// The p positions from va on, each with those from vb on that it meets: the first d meet none.
+fn put_rows(va: usize, vb: usize, d: usize, p: usize, out: &mut [i32], at: usize) -> usize
+    requires { ⌜ (0 < va) × (va + p ≤ largest + 1) × (0 < vb) × (vb + p ≤ largest + 1) ⌝ }
+    requires { ⌜ at + length (clausesWords (rowsFrom va vb d p)) ≤ length (now out) ⌝ }
+    ensures { λ r. ⌜ Wrote (clausesWords (rowsFrom va vb d p)) (now (out .entry)) at (now (out .exit)) r ⌝ }
+{
+    let mut to = at;
+    for i in d..p {
+        to = put_row(va + i, vb, i + 1 - d, out, to);
+    }
+    to
+}
+
+// Block a with each later one.
+fn later_clauses(a: usize, line: &[u32], clue: &[u32], out: &mut [i32], at: usize) -> usize
+    requires { ⌜ Sound (lineOf (now line) (now clue)) × (68 ≤ length (now line)) ⌝ }
+    requires { ⌜ a < length (now clue) / 2 ⌝ }
+    requires { ⌜ at + length (clausesWords (laterRows (lineOf (now line) (now clue)) a)) ≤ length (now out) ⌝ }
+    ensures { λ r. ⌜ Wrote (clausesWords (laterRows (lineOf (now (line .entry)) (now (clue .entry))) a)) (now (out .entry)) at (now (out .exit)) r ⌝ }
+{
+    let first = wide(line[1]);
+    let p = wide(line[2]);
+    let mut to = at;
+    for b in a + 1..clue.len() / 2 {
+        let d = distance(line, clue, a, b);
+        to = put_rows(first + a * p, first + b * p, d, p, out, to);
+    }
+    to
+}
+
+pub fn non_overlap_clauses(line: &[u32], clue: &[u32], out: &mut [i32], at: usize) -> usize
+    requires { ⌜ Sound (lineOf (now line) (now clue)) × (68 ≤ length (now line)) ⌝ }
+    requires { ⌜ at + length (clausesWords (nonOverlap (lineOf (now line) (now clue)))) ≤ length (now out) ⌝ }
+    ensures { λ r. ⌜ Wrote (clausesWords (nonOverlap (lineOf (now (line .entry)) (now (clue .entry))))) (now (out .entry)) at (now (out .exit)) r ⌝ }
+{
+    let mut to = at;
+    for a in 0..clue.len() / 2 {
+        to = later_clauses(a, line, clue, out, to);
+    }
+    to
+}

@@ -1,0 +1,58 @@
+// A section of one rule: its clause count, then what it says of the lines, one after another.
+use crate::line::line_clauses;
+use crate::rule::Rule;
+use boards::table::clue_end;
+use lists::wide;
+use literals::number;
+ghost use mathlib.Core.Path.{_≡_};
+ghost use Prim.Native.Nat.{_+_, _≤_, _<_};
+ghost use lib.ListN.{length};
+ghost use Rattle.lists.specs.Wrote.{Wrote};
+ghost use Rattle.sections.specs.Sections.{clausesWords, sectionWords};
+ghost use Rattle.puzzles.specs.Puzzle as P;
+ghost use Rattle.puzzles.specs.Checks.{puzzle};
+ghost use Rattle.numbering.specs.Variables.{lineAt};
+ghost use Rattle.numbering.specs.Tables.{Ready};
+ghost use Rattle.placement.specs.Placement.{ruled, ofLines};
+
+// Line l, found through the table.
+fn write_line(
+    rule: Rule,
+    words: &[u32],
+    table: &[u32],
+    l: usize,
+    out: &mut [i32],
+    at: usize,
+) -> usize
+    requires { ⌜ Ready (now words) (now table) × (l < P.lines (puzzle (now words))) ⌝ }
+    requires { ⌜ at + length (clausesWords (ruled rule (lineAt (puzzle (now words)) l))) ≤ length (now out) ⌝ }
+    ensures { λ r. ⌜ Wrote (clausesWords (ruled rule (lineAt (puzzle (now (words .entry))) l))) (now (out .entry)) at (now (out .exit)) r ⌝ }
+{
+    let row = 68 * l;
+    let begin = wide(table[row]);
+    let end = clue_end(words, begin);
+    line_clauses(rule, &table[row..row + 68], &words[begin + 1..end], out, at)
+}
+
+// The n lines from line `from` on, which have `count` clauses.
+pub fn write_lines(
+    rule: Rule,
+    words: &[u32],
+    table: &[u32],
+    from: usize,
+    n: usize,
+    count: usize,
+    out: &mut [i32],
+) -> usize
+    requires { ⌜ Ready (now words) (now table) × (from + n ≤ P.lines (puzzle (now words))) ⌝ }
+    requires { ⌜ (count ≡ length (ofLines (puzzle (now words)) rule from n)) × (count < 2147483648) ⌝ }
+    requires { ⌜ length (sectionWords (ofLines (puzzle (now words)) rule from n)) ≤ length (now out) ⌝ }
+    ensures { λ r. ⌜ Wrote (sectionWords (ofLines (puzzle (now (words .entry))) rule from n)) (now (out .entry)) 0 (now (out .exit)) r ⌝ }
+{
+    out[0] = number(count);
+    let mut to = 1;
+    for k in 0..n {
+        to = write_line(rule, words, table, from + k, out, to);
+    }
+    to
+}
