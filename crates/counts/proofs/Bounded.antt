@@ -13,12 +13,12 @@ use Rattle.puzzles.specs.Puzzle.{Puzzle, width, height, lines}
 use Rattle.puzzles.specs.Colors.{solved}
 use Rattle.puzzles.specs.Checks.{colors}
 use Rattle.puzzles.specs.Good.{Good}
-use Rattle.numbering.specs.Variables.{Line, many, hues, hue}
+use Rattle.numbering.specs.Variables.{Line, many, hues, hue, palette}
 use Rattle.numbering.specs.Tables.{Sound}
 use Rattle.numbering.proofs.SoundLines.{sound-shared, sound-some, sound-distance, sound-sizes}
 use Rattle.numbering.proofs.Bounds.{line-sound, hues-most, cells-most}
 use Rattle.numbering.proofs.Palettes.{palette-most}
-use Rattle.counts.specs.Formulas.{onceIn, overlapIn, spaceIn, measured, overLines, pointCount, excluded, unitsBy, unitCount}
+use Rattle.counts.specs.Formulas.{onceIn, overlapPair, overlapAt, overlapIn, spaceIn, measured, overLines, pointCount, excluded, unitsBy, unitCount}
 use Rattle.counts.specs.declared.measure.Measure.{Measure}
 use Rattle.counts.specs.declared.measure.Measure.the-variants.{Blocks, Once, Overlap, Space}
 use Rattle.counts.proofs.Triangles.{pairs-count}
@@ -55,7 +55,7 @@ module _ {L : Line} (S : Sound L) where
       omega (arith, rw e at (pairs-most n 65 (omega (arith, sound-shared S))), mul-comm (L .positions - d) (L .positions - d + 1))
 
   overlap-most : overlapIn L ≤ 4193280
-  unfolding overlapIn overlapAt sumPairs
+  unfolding overlapIn overlapAt overlapPair sumPairs
   overlap-most =
       omega (arith, pairs-below (many L) 2080 _ (λ a b h l. pair-most _ (sound-distance S a b h l)), mul-le-mul-left 2080 (pairs-most (many L) 64 few))
     where

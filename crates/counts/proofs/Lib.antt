@@ -4,5 +4,7 @@ pub mod Placed
 pub mod OverColors
 pub mod Covered
 pub mod Colored
-pub mod Units
+pub mod UnitClauses
 pub mod Bounded
+pub mod Summing
+pub mod Countings

@@ -27,7 +27,7 @@ use Rattle.numbering.proofs.SoundLines.{sound-clash, sound-distance}
 use Rattle.placement.specs.Placement.{blockPositions, blockOnce, nonOverlap, ruled, ofLines}
 use Rattle.placement.specs.declared.rule.Rule.{Rule}
 use Rattle.placement.specs.declared.rule.Rule.the-variants.{Positions, Once, Overlap}
-use Rattle.counts.specs.Formulas.{blocksIn, onceIn, overlapIn, measured, overLines}
+use Rattle.counts.specs.Formulas.{blocksIn, onceIn, overlapPair, overlapAt, overlapIn, measured, overLines}
 use Rattle.counts.specs.declared.measure.Measure.{Measure}
 use Rattle.counts.specs.declared.measure.Measure.the-variants as M
 use Rattle.counts.specs.declared.measure.Measure.the-variants.{Blocks}
@@ -79,7 +79,7 @@ module _ {L : Line} (S : Sound L) where
       ∙ triangle-count d (sound-distance S a b h l) (L .positions)
 
   overlap-length : length (nonOverlap L) ≡ overlapIn L
-  unfolding nonOverlap overlapIn overlapAt sumPairs
+  unfolding nonOverlap overlapIn overlapAt overlapPair sumPairs
   overlap-length =
       length-pairs (many L) _ ∙ sum-same (many L) _ _ (λ a h. sum-same (many L - suc a) _ _ (λ j l. pair-length a (suc a + j) (omega arith) (omega arith)))
 

@@ -22,14 +22,21 @@ unfoldable pub onceIn : Line → ℕ
 onceIn L = sum (many L) (λ b. L .positions * (L .positions - 1) / 2)
 
 -- 5 and 6: per pair n(n+1)/2 with n = max(0, p - d)
+unfoldable pub overlapPair : Line → ℕ → ℕ → ℕ
+overlapPair L a b =
+    let n = L .positions - distance gap (at (L .runs) a) (at (L .runs) b) in
+    n * (n + 1) / 2
+
+-- those of block a with each later one
 unfoldable pub overlapAt : Line → ℕ → ℕ
-overlapAt L a =
-    sum (many L - suc a) (λ j.
-    let n = L .positions - distance gap (at (L .runs) a) (at (L .runs) (suc a + j)) in
-    n * (n + 1) / 2)
+overlapAt L a = sum (many L - suc a) (λ j. overlapPair L a (suc a + j))
 
 unfoldable pub overlapIn : Line → ℕ
 overlapIn L = sum (many L) (overlapAt L)
+
+-- the cells that its blocks have
+abbrev pub cellsIn : Line → ℕ
+cellsIn L = sum (many L) (λ b. at (L .runs) b .size)
 
 -- 8: the sum of p times size over all blocks
 unfoldable pub spaceIn : Line → ℕ

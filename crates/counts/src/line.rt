@@ -4,16 +4,13 @@ use boards::table::clue_end;
 use lists::wide;
 use placement::overlap::distance;
 ghost use mathlib.Core.Path.{_≡_};
-ghost use Prim.Native.Nat.{suc, _+_, _-_, _*_, _/_, _≤_, _<_};
+ghost use Prim.Native.Nat.{_+_, _-_, _*_, _/_, _≤_, _<_};
 ghost use lib.ListN.{length};
-ghost use Rattle.lists.specs.Each.{sum};
-ghost use Rattle.lines.specs.Clue.{gap};
-ghost use Rattle.lines.specs.Arrangement as A;
 ghost use Rattle.puzzles.specs.Puzzle.{lines};
 ghost use Rattle.puzzles.specs.Checks.{puzzle};
-ghost use Rattle.numbering.specs.Variables.{Line, lineAt, many};
+ghost use Rattle.numbering.specs.Variables.{lineAt, many};
 ghost use Rattle.numbering.specs.Tables.{Ready, Sound, lineOf};
-ghost use Rattle.counts.specs.Formulas.{overlapAt, overlapIn, measured, overLines};
+ghost use Rattle.counts.specs.Formulas.{cellsIn, overlapAt, overlapIn, measured, overLines};
 
 // The positions of two blocks that are in conflict: a triangle of them.
 fn pair_count(p: usize, d: usize) -> usize
@@ -55,7 +52,7 @@ fn overlap_count(line: &[u32], clue: &[u32]) -> usize
 // The cells that the blocks of a clue have.
 fn size_count(line: &[u32], clue: &[u32]) -> usize
     requires { ⌜ Sound (lineOf (now line) (now clue)) ⌝ }
-    ensures { λ r. ⌜ r ≡ sum (many (lineOf (now (line .entry)) (now (clue .entry)))) (λ b. A.at (lineOf (now (line .entry)) (now (clue .entry)) .runs) b .size) ⌝ }
+    ensures { λ r. ⌜ r ≡ cellsIn (lineOf (now (line .entry)) (now (clue .entry))) ⌝ }
 {
     let mut total = 0;
     for b in 0..clue.len() / 2 {

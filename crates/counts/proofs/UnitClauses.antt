@@ -1,29 +1,30 @@
 -- Family 10: per cell 1 if a solved colour, k if solved blank, else its excluded colours.
 use mathlib.Core.Path.{_≡_, refl, sym, ap, _∙_}
-use mathlib.Core.Bool.{Bool, true, false, not, cond, _||_, true≢false, false≢true}
+use mathlib.Core.Bool.{Bool, true, false, not, cond, _&&_, _||_, true≢false, false≢true}
 use mathlib.Core.List.{[], _∷_}
 use Prim.Native.Nat.{ℕ, zero, suc, _+_, _-_, _*_, _^_, _≤_, _<_}
 use native.Mathlib.Omega.{arith}
 use native.Mathlib.Numerals.{one-add}
 use native.Mathlib.Nat.{mul-comm, mul-one}
 use native.Mathlib.Decide.{ℕ-discrete}
-use lib.Bits.{bitAnd, bitOr, and-le-r}
+use lib.Bits.{bitAnd, bitOr, and-le-l, and-le-r}
+use lib.Count.{ones}
 use lib.ListN.{length, getD}
 use borrow.Author.Tests.{eq-eqb, ne-eqb, eqb-true}
 use Rattle.lists.specs.Each.{each, when, sum}
-use Rattle.lists.proofs.Sums.{sum-at, sum-parts, sum-same, sum-below, sum-plus, sum-constant, length-each}
+use Rattle.lists.proofs.Sums.{sum-both, sum-at, sum-parts, sum-same, sum-below, sum-plus, sum-constant, length-each}
 use Rattle.lists.proofs.Parts.{place-within}
 use Rattle.lists.proofs.Tests.{both}
 use Rattle.literals.specs.Literals.{positive, negative}
 use Rattle.bits.specs.Bits.{bit, powers}
 use Rattle.bits.proofs.SetBits.{bit-and, bit-or, bit-power, bit-some, with-zero, with-within}
-use Rattle.bits.proofs.LowestFirst.{same-bits}
+use Rattle.bits.proofs.LowestFirst.{powers-count, same-bits}
 use Rattle.puzzles.specs.Puzzle.{Puzzle, width, height}
 use Rattle.puzzles.specs.Colors.{solved, offSolved}
 use Rattle.puzzles.specs.Checks.{colors}
 use Rattle.puzzles.specs.Good.{Good}
 use Rattle.puzzles.proofs.ColorSets.{good-known}
-use Rattle.numbering.specs.Variables.{hues, hue, cellVariable}
+use Rattle.numbering.specs.Variables.{palette, hues, hue, cellVariable}
 use Rattle.cells.specs.Cells.{precomputed, maskAt, precomputedCells}
 use Rattle.counts.specs.Formulas.{excluded, unitsBy, unitCount}
 use Rattle.counts.proofs.OverColors.{over-colors}
@@ -44,6 +45,58 @@ bits-set mask =
 -- the colours of a set that a mask has
 pub included : ℕ → ℕ → ℕ
 included K mask = sum 31 (λ k. cond (bit K (suc k)) (cond (bit mask (suc k)) 1 0) 0)
+
+-- ---- as set bits
+
+module _ (K : ℕ) (small : K < 2 ^ 32) (blank : bit K 0 ≡ false) where
+  set-ones : (m : ℕ) → m < 2 ^ 32 → bit m 0 ≡ false → ones m ≡ sum 31 (λ k. cond (bit m (suc k)) 1 0)
+  set-ones m l b = omega (arith, powers-count m l, rw b at (bits-set m))
+
+  pub palette-ones : length (palette K) ≡ ones K
+  palette-ones =
+      sym (sum-constant (length (palette K)) 1 ∙ mul-one (length (palette K)))
+      ∙ over-colors (λ c. 1) K ∙ sym (set-ones K small blank)
+
+  included-ones : (mask : ℕ) → ones (bitAnd K mask) ≡ included K mask
+  unfolding included
+  included-ones mask =
+      set-ones (bitAnd K mask) (omega (arith, and-le-l K mask)) (bit-and K mask 0 ∙ rw blank)
+      ∙ sum-same 31 _ _ (λ k _. rw (bit-and K mask (suc k)) (cases (bit K (suc k)) (bit mask (suc k))))
+    where
+      cases : (x y : Bool) → _≡_ {A = ℕ} (cond (x && y) 1 0) (cond x (cond y 1 0) 0)
+      cases true y = refl
+      cases false y = refl
+
+  excluded-ones : (mask : ℕ) → excluded K mask + ones (bitAnd K mask) ≡ ones K
+  unfolding excluded included
+  excluded-ones mask =
+      rw (included-ones mask, over-colors (λ c. cond (bit mask c) 0 1) K)
+      (sym (sum-both 31 (λ k. cond (bit K (suc k)) (cond (bit mask (suc k)) 0 1) 0) (λ k. cond (bit K (suc k)) (cond (bit mask (suc k)) 1 0) 0))
+      ∙ sum-same 31 _ _ (λ k _. cases (bit K (suc k)) (bit mask (suc k)))
+      ∙ sym (set-ones K small blank))
+    where
+      cases : (x y : Bool) → _≡_ {A = ℕ} (cond x (cond y 0 1) 0 + cond x (cond y 1 0) 0) (cond x 1 0)
+      cases true true = refl
+      cases true false = refl
+      cases false y = refl
+
+  -- what is counted of a cell
+  module _ (mask : ℕ) (fits : mask < 2 ^ 32) where
+    pub units-most-ones : ones (bitAnd K mask) ≤ ones K
+    units-most-ones = omega (arith, excluded-ones mask)
+
+    pub units-unsolved : (ones mask ≡ 1 → ⊥) → ones K - ones (bitAnd K mask) ≡ unitsBy K mask
+    unfolding unitsBy solved
+    units-unsolved n = rw (powers-count mask fits, ne-eqb (ones mask) 1 n) (omega (arith, excluded-ones mask))
+
+    module _ (e : ones mask ≡ 1) where
+      pub units-blank : bit mask 0 ≡ true → ones K ≡ unitsBy K mask
+      unfolding unitsBy solved
+      units-blank b = rw (powers-count mask fits, eq-eqb (ones mask) 1 e, b) (sym palette-ones)
+
+      pub units-color : bit mask 0 ≡ false → 1 ≡ unitsBy K mask
+      unfolding unitsBy solved
+      units-color b = rw (powers-count mask fits, eq-eqb (ones mask) 1 e, b)
 
 -- ---- a cell solved with a colour of the set
 
