@@ -1,1 +1,5 @@
-// The ten families in order, and how many clauses they have.
+// How many clauses, literals and words the ten families of a puzzle have, from its lines and masks alone.
+pub mod line;
+pub mod measure;
+// pub mod total;
+mod units;

@@ -3,7 +3,8 @@ use mathlib.Core.Path.{_≡_, refl, sym, _∙_}
 use mathlib.Core.List.{List}
 use Prim.Native.Nat.{ℕ, zero, suc, _+_, _-_, _*_, _≤_, _<_}
 use native.Mathlib.Omega.{arith}
-use native.Mathlib.Nat.{mul-zero, zero-mul, suc-mul}
+use native.Mathlib.Nat.{add-zero, add-suc, mul-zero, mul-add, zero-mul, suc-mul}
+use native.Mathlib.Decide.{ℕ-discrete}
 use lib.ListN.{length, length-append}
 use Rattle.lists.specs.Each.{each, pairs, product, sum, sumPairs}
 
@@ -30,6 +31,15 @@ unfolding sum
 sum-least zero f h = omega arith
 sum-least (suc n) f h = omega (arith, sum-least n f (λ k l. h k (omega arith)), h n (omega arith))
 
+-- each of them is within the sum
+pub sum-at : (n : ℕ) (f : ℕ → ℕ) (k : ℕ) → k < n → f k ≤ sum n f
+unfolding sum
+sum-at zero f k h = absurd (omega arith)
+sum-at (suc n) f k h = elim (ℕ-discrete k n) [
+  | yes e ↦ rw e (omega arith)
+  | no e ↦ omega (arith, sum-at n f k (omega arith))
+]
+
 -- two sums are one
 pub sum-both : (n : ℕ) (f g : ℕ → ℕ) → sum n (λ k. f k + g k) ≡ sum n f + sum n g
 unfolding sum
@@ -41,6 +51,32 @@ pub sum-swap : (n m : ℕ) (f : ℕ → ℕ → ℕ) → sum n (λ i. sum m (λ 
 unfolding sum
 sum-swap zero m f = sym (sum-same m _ _ (λ k l. refl) ∙ sum-constant m 0 ∙ mul-zero m)
 sum-swap (suc n) m f = rw (sum-swap n m f) (sym (sum-both m (λ j. sum n (λ i. f i j)) (λ j. f n j)))
+
+-- first some, then the others
+pub sum-plus : (m n : ℕ) (f : ℕ → ℕ) → sum (m + n) f ≡ sum m f + sum n (λ k. f (m + k))
+unfolding sum
+sum-plus m zero f = rw (add-zero m) (omega arith)
+sum-plus m (suc n) f = rw (add-suc m n) (omega (arith, sum-plus m n f))
+
+-- all but one are 0
+pub sum-one : (n : ℕ) (f : ℕ → ℕ) (a : ℕ) → a < n → ((k : ℕ) → k < n → (k ≡ a → ⊥) → f k ≡ 0) → sum n f ≡ f a
+unfolding sum
+sum-one zero f a h o = absurd (omega arith)
+sum-one (suc n) f a h o = elim (ℕ-discrete a n) [
+  | yes e ↦ rw e (omega (arith, sum-same n f (λ k. 0) (λ k l. o k (omega arith) (λ q. omega arith)), sum-constant n 0, mul-zero n))
+  | no e ↦ omega (arith, sum-one n f a (omega arith) (λ k l q. o k (omega arith) q), o n (omega arith) (λ q. e (sym q)))
+]
+
+pub sum-times : (n c : ℕ) (f : ℕ → ℕ) → sum n (λ k. c * f k) ≡ c * sum n f
+unfolding sum
+sum-times zero c f = sym (mul-zero c)
+sum-times (suc n) c f = omega (arith, sum-times n c f, mul-add c (sum n f) (f n))
+
+-- parts of one length, one after another
+pub sum-parts : (n m : ℕ) (f : ℕ → ℕ) → sum n (λ i. sum m (λ j. f (i * m + j))) ≡ sum (n * m) f
+unfolding sum
+sum-parts zero m f = rw (zero-mul m)
+sum-parts (suc n) m f = rw (sum-parts n m f, suc-mul n m) (sym (sum-plus (n * m) m f))
 
 -- ---- lengths
 

@@ -1,0 +1,149 @@
+-- Family 10: per cell 1 if a solved colour, k if solved blank, else its excluded colours.
+use mathlib.Core.Path.{_≡_, refl, sym, ap, _∙_}
+use mathlib.Core.Bool.{Bool, true, false, not, cond, _||_, true≢false, false≢true}
+use mathlib.Core.List.{[], _∷_}
+use Prim.Native.Nat.{ℕ, zero, suc, _+_, _-_, _*_, _^_, _≤_, _<_}
+use native.Mathlib.Omega.{arith}
+use native.Mathlib.Numerals.{one-add}
+use native.Mathlib.Nat.{mul-comm, mul-one}
+use native.Mathlib.Decide.{ℕ-discrete}
+use lib.Bits.{bitAnd, bitOr, and-le-r}
+use lib.ListN.{length, getD}
+use borrow.Author.Tests.{eq-eqb, ne-eqb, eqb-true}
+use Rattle.lists.specs.Each.{each, when, sum}
+use Rattle.lists.proofs.Sums.{sum-at, sum-parts, sum-same, sum-below, sum-plus, sum-constant, length-each}
+use Rattle.lists.proofs.Parts.{place-within}
+use Rattle.lists.proofs.Tests.{both}
+use Rattle.literals.specs.Literals.{positive, negative}
+use Rattle.bits.specs.Bits.{bit, powers}
+use Rattle.bits.proofs.SetBits.{bit-and, bit-or, bit-power, bit-some, with-zero, with-within}
+use Rattle.bits.proofs.LowestFirst.{same-bits}
+use Rattle.puzzles.specs.Puzzle.{Puzzle, width, height}
+use Rattle.puzzles.specs.Colors.{solved, offSolved}
+use Rattle.puzzles.specs.Checks.{colors}
+use Rattle.puzzles.specs.Good.{Good}
+use Rattle.puzzles.proofs.ColorSets.{good-known}
+use Rattle.numbering.specs.Variables.{hues, hue, cellVariable}
+use Rattle.cells.specs.Cells.{precomputed, maskAt, precomputedCells}
+use Rattle.counts.specs.Formulas.{excluded, unitsBy, unitCount}
+use Rattle.counts.proofs.OverColors.{over-colors}
+use Rattle.counts.proofs.Literals.{HasEach, one-has, each-has, when-has}
+
+-- how many bits of a mask are set, and how many of them from bit 1 on
+pub bits-set : (mask : ℕ) → length (powers mask) ≡ cond (bit mask 0) 1 0 + sum 31 (λ k. cond (bit mask (suc k)) 1 0)
+unfolding powers
+bits-set mask =
+    length-each 32 _ ∙ sum-same 32 _ (λ k. cond (bit mask k) 1 0) (λ k _. one (bit mask k) (2 ^ k))
+    ∙ sum-plus 1 31 (λ k. cond (bit mask k) 1 0)
+    ∙ unfold sum in omega (arith, sum-same 31 (λ k. cond (bit mask (1 + k)) 1 0) (λ k. cond (bit mask (suc k)) 1 0) (λ k _. rw (one-add k)))
+  where
+    one : (b : Bool) (x : ℕ) → length (when b (x ∷ [])) ≡ cond b 1 0
+    one true x = refl
+    one false x = refl
+
+-- the colours of a set that a mask has
+pub included : ℕ → ℕ → ℕ
+included K mask = sum 31 (λ k. cond (bit K (suc k)) (cond (bit mask (suc k)) 1 0) 0)
+
+-- ---- a cell solved with a colour of the set
+
+module _ (K mask : ℕ) (small : K < 2 ^ 32) (s : solved mask ≡ true) (b : bit mask 0 ≡ false) (o : offSolved K mask ≡ false) where
+  abbrev met : ℕ
+  met = bitAnd mask (bitOr K 1)
+
+  met-small : met < 2 ^ 32
+  met-small = omega (arith, and-le-r mask (bitOr K 1), with-zero K, with-within K 0 small)
+
+  met-some : met ≡ 0 → ⊥
+  unfolding offSolved
+  met-some e = true≢false (sym (rw (s, eq-eqb met 0 e)) ∙ o)
+
+  met-bit : (k : ℕ) → bit met (suc k) ≡ true → (bit K (suc k) ≡ true) × (bit mask (suc k) ≡ true)
+  met-bit k e =
+      let t = both (bit mask (suc k)) (bit (bitOr K 1) (suc k)) (sym (bit-and mask (bitOr K 1) (suc k)) ∙ e) in
+      (either (bit K (suc k)) (sym (bit-or K 1 (suc k)) ∙ t .1), t .0)
+    where
+      either : (x : Bool) → (x || bit (2 ^ 0) (suc k)) ≡ true → x ≡ true
+      either true q = refl
+      either false q = absurd (false≢true (sym (bit-power 0 (suc k) ∙ ne-eqb (suc k) 0 (λ e. omega arith)) ∙ q))
+
+  one-most : included K mask ≤ 1
+  unfolding included solved
+  one-most =
+      omega (
+        arith,
+        sum-below 31 (λ k. cond (bit K (suc k)) (cond (bit mask (suc k)) 1 0) 0) (λ k. cond (bit mask (suc k)) 1 0) (λ k _. less (bit K (suc k)) (bit mask (suc k))),
+        low,
+        eqb-true (length (powers mask)) 1 s,
+      )
+    where
+      low : length (powers mask) ≡ 0 + sum 31 (λ k. cond (bit mask (suc k)) 1 0)
+      low = rw b at (bits-set mask)
+
+      less : (x y : Bool) → cond x (cond y 1 0) 0 ≤ cond y 1 0
+      less true y = omega arith
+      less false true = omega arith
+      less false false = omega arith
+
+  one-least : included K mask ≡ 0 → ⊥
+  unfolding included
+  one-least e = met-some (same-bits met 0 met-small (omega arith) none (λ k _ q. absurd (omega (arith, bit-some 0 k q))))
+    where
+      none : (k : ℕ) → k < 32 → bit met k ≡ true → bit 0 k ≡ true
+      none zero h q = absurd (false≢true (sym b ∙ both (bit mask 0) (bit (bitOr K 1) 0) (sym (bit-and mask (bitOr K 1) 0) ∙ q) .0))
+      none (suc k) h q =
+          let t = met-bit k q in
+          let v : _≡_ {A = ℕ} (cond (bit K (suc k)) (cond (bit mask (suc k)) 1 0) 0) 1 = rw (t .0, t .1) in
+          absurd (omega (arith, e, v, sum-at 31 (λ k. cond (bit K (suc k)) (cond (bit mask (suc k)) 1 0) 0) k (omega arith)))
+
+  pub solved-one : included K mask ≡ 1
+  solved-one = elim (ℕ-discrete (included K mask) 0) [
+    | yes e ↦ absurd (one-least e)
+    | no e ↦ omega (arith, one-most)
+  ]
+
+-- ---- the clauses of a cell
+
+-- of each colour
+precomputed-length : (mask c v : ℕ) → length (precomputed mask c v) ≡ cond (solved mask) (cond (bit mask 0) 1 (cond (bit mask c) 1 0)) (cond (bit mask c) 0 1)
+unfolding precomputed
+precomputed-length mask c v = cases (solved mask) (bit mask 0) (bit mask c)
+  where
+    cases : (s b m : Bool) → length (cond s (cond b ((negative v ∷ []) ∷ []) (when m ((positive v ∷ []) ∷ []))) (when (not m) ((negative v ∷ []) ∷ []))) ≡ cond s (cond b 1 (cond m 1 0)) (cond m 0 1)
+    cases true true m = refl
+    cases true false true = refl
+    cases true false false = refl
+    cases false b true = refl
+    cases false b false = refl
+
+-- of all colours
+cell-units : (z : Puzzle) (K : ℕ) → K ≡ colors z → K < 2 ^ 32 → (mask : ℕ) → offSolved K mask ≡ false → (s b : Bool) → solved mask ≡ s → bit mask 0 ≡ b
+    → sum (hues z) (λ r. cond s (cond b 1 (cond (bit mask (hue z r)) 1 0)) (cond (bit mask (hue z r)) 0 1)) ≡ cond s (cond b (hues z) 1) (excluded (colors z) mask)
+unfolding excluded included
+cell-units z K e small mask o true true p q = sum-constant (hues z) 1 ∙ mul-one (hues z)
+cell-units z K e small mask o true false p q = over-colors (λ c. cond (bit mask c) 1 0) (colors z) ∙ ap (λ (k : ℕ). included k mask) (sym e) ∙ solved-one K mask small p q o
+cell-units z K e small mask o false b p q = refl
+
+pub cells-units : (z : Puzzle) → Good z → length (precomputedCells z) ≡ unitCount z
+unfolding precomputedCells unitsBy
+cells-units z G =
+    let w = width z in
+    let h = height z in
+    let mask : ℕ → ℕ = λ i. getD (z .masks) i 0 in
+    let cell : (y x : ℕ) → y < h → x < w → length (each (hues z) (λ r. precomputed (maskAt z x y) (hue z r) (cellVariable z x y r))) ≡ unitsBy (colors z) (mask (y * w + x)) = λ y x j k.
+    length-each (hues z) _ ∙ sum-same (hues z) _ _ (λ r _. precomputed-length (maskAt z x y) (hue z r) (cellVariable z x y r))
+    ∙ cell-units z (colors z) refl (good-known z G .small) (maskAt z x y) (G .solved-known (y * w + x) (omega (arith, G .area, place-within h w y x j k, mul-comm h w))) (solved (maskAt z x y)) (bit (maskAt z x y) 0) refl refl in
+    length-each h _
+    ∙ sum-same h _ _ (λ y j. length-each w _ ∙ sum-same w _ _ (λ x k. cell y x j k))
+    ∙ sum-parts h w (λ i. unitsBy (colors z) (mask i))
+    ∙ ap (λ (n : ℕ). sum n (λ i. unitsBy (colors z) (mask i))) (mul-comm h w ∙ sym (G .area))
+
+-- one literal in each clause
+pub units-ones : (z : Puzzle) → HasEach 1 (precomputedCells z)
+unfolding precomputedCells precomputed
+units-ones z = each-has 1 (height z) _ (λ y _. each-has 1 (width z) _ (λ x _. each-has 1 (hues z) _ (λ r _. ones (solved (maskAt z x y)) (bit (maskAt z x y) 0) (bit (maskAt z x y) (hue z r)) (cellVariable z x y r))))
+  where
+    ones : (s b m : Bool) (v : ℕ) → HasEach 1 (cond s (cond b ((negative v ∷ []) ∷ []) (when m ((positive v ∷ []) ∷ []))) (when (not m) ((negative v ∷ []) ∷ [])))
+    ones true true m v = one-has 1 _ refl
+    ones true false m v = when-has 1 m _ refl
+    ones false b m v = when-has 1 (not m) _ refl
