@@ -26,6 +26,10 @@ use Rattle.placement.proofs.RowLaw.{non-overlap-later}
 abbrev pub InRange : ℕ → ℕ → Type 0
 InRange v n = (0 < v) × (v + n ≤ largest + 1)
 
+-- the rows of a pair, by the line's first variable and its positions
+abbrev pub rowsOf : Line → ℕ → ℕ → ℕ → ℕ → List Clause
+rowsOf L first p a b = rowsFrom (first + a * p) (first + b * p) (apart L a b) p
+
 -- the words of a pair of blocks: those of the later one are there, and the earlier one ends before it starts
 pub record PairWords (line clue : List ℕ) (a b : ℕ) : Type 0 where
   pub order : a < b
@@ -38,25 +42,27 @@ module _ (line clue : List ℕ) (S : Sound (lineOf line clue)) where
   abbrev L : Line
   L = lineOf line clue
 
+  -- ---- the words of a pair
+
   module _ (a b : ℕ) (h : a < b) (below : b < length clue / 2) where
-    l : b < many L
-    l = omega (arith, of-many line clue)
+    known : b < many L
+    known = omega (arith, of-many line clue)
 
     pub pair-words : PairWords line clue a b
     pair-words =
-        let ra = of-run line clue a (omega (arith, l)) in
-        let rb = of-run line clue b l in
+        let ra = of-run line clue a (omega (arith, known)) in
+        let rb = of-run line clue b known in
         record {
           order = h;
-          few = omega (arith, l, sound-shared S, sound-some S);
+          few = omega (arith, known, sound-shared S, sound-some S);
           words-within = omega arith;
-          ends = omega (arith, rw (ra, rb) at (sound-apart S a b h l));
-          starts = omega (arith, rw rb at (sound-within S b l 0 (sound-some S)));
+          ends = omega (arith, rw (ra, rb) at (sound-apart S a b h known));
+          starts = omega (arith, rw rb at (sound-within S b known 0 (sound-some S)));
         }
 
     pub apart-is : getD line (4 + b) 0 - (getD line (4 + a) 0 + getD clue (2 * a) 0) + 1 - gap (getD clue (2 * a + 1) 0) (getD clue (2 * b + 1) 0) ≡ apart L a b
     unfolding distance
-    apart-is = rw (of-run line clue a (omega (arith, l)), of-run line clue b l)
+    apart-is = rw (of-run line clue a (omega (arith, known)), of-run line clue b known)
 
   -- ---- its first variable and its positions, as they are read
 
@@ -106,17 +112,17 @@ module _ (line clue : List ℕ) (S : Sound (lineOf line clue)) where
     once-done E h = blocks-done atMostOne E h
 
     module _ (a : ℕ) where
-      later-are : laterRows L a ≡ each (length clue / 2 - (a + 1)) (λ k. rowsFrom (first + a * p) (first + (a + 1 + k) * p) (apart L a (a + 1 + k)) p)
+      later-are : laterRows L a ≡ each (length clue / 2 - (a + 1)) (λ k. rowsOf L first p a (a + 1 + k))
       unfolding laterRows
       later-are = rw (of-many line clue, first-is, positions-is, add-one a)
 
       pub later-first : (out : List ℤ) (to : ℕ) → to + length (clausesWords (laterRows L a)) ≤ length out
-          → EmittingFrom (a + 1) (length clue / 2) (λ b. clausesWords (rowsFrom (first + a * p) (first + b * p) (apart L a b) p)) out to out to (a + 1)
-      later-first out to h = say-from (a + 1) (length clue / 2) (λ b. rowsFrom (first + a * p) (first + b * p) (apart L a b) p) out to (rw (← later-are) h)
+          → EmittingFrom (a + 1) (length clue / 2) (λ b. clausesWords (rowsOf L first p a b)) out to out to (a + 1)
+      later-first out to h = say-from (a + 1) (length clue / 2) (rowsOf L first p a) out to (rw (← later-are) h)
 
-      pub later-done : {out₀ out : List ℤ} {to₀ to b : ℕ} → EmittingFrom (a + 1) (length clue / 2) (λ b. clausesWords (rowsFrom (first + a * p) (first + b * p) (apart L a b) p)) out₀ to₀ out to b
+      pub later-done : {out₀ out : List ℤ} {to₀ to b : ℕ} → EmittingFrom (a + 1) (length clue / 2) (λ b. clausesWords (rowsOf L first p a b)) out₀ to₀ out to b
           → length clue / 2 ≤ b → Wrote (clausesWords (laterRows L a)) out₀ to₀ out to
-      later-done E h = rw later-are (say-from-done (a + 1) (length clue / 2) (λ b. rowsFrom (first + a * p) (first + b * p) (apart L a b) p) E h)
+      later-done E h = rw later-are (say-from-done (a + 1) (length clue / 2) (rowsOf L first p a) E h)
 
   -- ---- each block with the later ones
 

@@ -14,7 +14,7 @@ use Rattle.sections.specs.Sections.{Clause, clausesWords}
 use Rattle.sections.proofs.ClauseLists.{clauses-each}
 
 module _ {A : Type 0} where
-  pub each-none : (n : ℕ) (f : ℕ → List A) → ((k : ℕ) → k < n → f k ≡ []) → each n f ≡ []
+  each-none : (n : ℕ) (f : ℕ → List A) → ((k : ℕ) → k < n → f k ≡ []) → each n f ≡ []
   unfolding each
   each-none zero f h = refl
   each-none (suc n) f h = rw (each-none n f (λ k l. h k (omega arith)), h n (omega arith))
@@ -42,7 +42,7 @@ module _ {A : Type 0} where
     pub low : s ≤ i
     pub emit : Emitting (n - s) (λ k. f (s + k)) out₀ at₀ out at (i - s)
 
-  pub from-first : (s n : ℕ) (f : ℕ → List A) (out : List A) (at : ℕ) → at + length (each (n - s) (λ k. f (s + k))) ≤ length out → EmittingFrom s n f out at out at s
+  from-first : (s n : ℕ) (f : ℕ → List A) (out : List A) (at : ℕ) → at + length (each (n - s) (λ k. f (s + k))) ≤ length out → EmittingFrom s n f out at out at s
   from-first s n f out at h =
       let e : 0 ≡ s - s = omega arith in
       record { low = omega arith; emit = rw e at (emit-first (n - s) (λ k. f (s + k)) out at h) }
@@ -63,7 +63,7 @@ module _ {A : Type 0} where
         let v : Wrote (f (s + (i - s))) out at out₁ at₁ = rw here w in
         record { low = omega (arith, E .low); emit = rw e at (emit-next (E .emit) (omega (arith, E .low)) v) }
 
-    pub from-done : n ≤ i → Wrote (each (n - s) (λ k. f (s + k))) out₀ at₀ out at
+    from-done : n ≤ i → Wrote (each (n - s) (λ k. f (s + k))) out₀ at₀ out at
     from-done h = emit-done (E .emit) (omega arith)
 
 -- and one whose turn i writes the clauses f i

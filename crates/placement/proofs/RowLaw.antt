@@ -19,12 +19,12 @@ use Rattle.placement.specs.Placement.{nonOverlap}
 use Rattle.placement.specs.PairRows.{apart, rowsFrom, pairRows, laterRows}
 use Rattle.placement.proofs.LateLoops.{each-late, each-early, EmittingFrom, say-from, say-from-done}
 
-pub row-none : (x y n : ℕ) → n ≡ 0 → row x y n ≡ []
+row-none : (x y n : ℕ) → n ≡ 0 → row x y n ≡ []
 unfolding row tab each
 row-none x y n e = rw e
 
 -- x, with those of p variables that are behind by d or more
-pub row-is : (p d i x y : ℕ) (t : ℕ → Bool) → 0 < d → i < p → ((j : ℕ) → t j ≡ leb (j + d) i) → each p (λ j. when (t j) (notBoth x (y + j) ∷ [])) ≡ row x y (i + 1 - d)
+row-is : (p d i x y : ℕ) (t : ℕ → Bool) → 0 < d → i < p → ((j : ℕ) → t j ≡ leb (j + d) i) → each p (λ j. when (t j) (notBoth x (y + j) ∷ [])) ≡ row x y (i + 1 - d)
 unfolding row tab
 row-is p d i x y t h l e =
     each-early (i + 1 - d) p _ _ (omega arith)

@@ -41,6 +41,7 @@ fn block_once_clauses(line: &[u32], clue: &[u32], out: &mut [i32], at: usize) ->
     to
 }
 
+// What a rule says of the line.
 pub fn line_clauses(rule: Rule, line: &[u32], clue: &[u32], out: &mut [i32], at: usize) -> usize
     requires { ⌜ Sound (lineOf (now line) (now clue)) × (68 ≤ length (now line)) ⌝ }
     requires { ⌜ at + length (clausesWords (ruled rule (lineOf (now line) (now clue)))) ≤ length (now out) ⌝ }

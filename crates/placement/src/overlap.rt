@@ -52,6 +52,7 @@ fn later_clauses(a: usize, line: &[u32], clue: &[u32], out: &mut [i32], at: usiz
     to
 }
 
+// Each block with the later ones.
 pub fn non_overlap_clauses(line: &[u32], clue: &[u32], out: &mut [i32], at: usize) -> usize
     requires { ⌜ Sound (lineOf (now line) (now clue)) × (68 ≤ length (now line)) ⌝ }
     requires { ⌜ at + length (clausesWords (nonOverlap (lineOf (now line) (now clue)))) ≤ length (now out) ⌝ }

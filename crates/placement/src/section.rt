@@ -28,10 +28,16 @@ fn write_line(
     requires { ⌜ at + length (clausesWords (ruled rule (lineAt (puzzle (now words)) l))) ≤ length (now out) ⌝ }
     ensures { λ r. ⌜ Wrote (clausesWords (ruled rule (lineAt (puzzle (now (words .entry))) l))) (now (out .entry)) at (now (out .exit)) r ⌝ }
 {
-    let row = 68 * l;
-    let begin = wide(table[row]);
+    let place = 68 * l;
+    let begin = wide(table[place]);
     let end = clue_end(words, begin);
-    line_clauses(rule, &table[row..row + 68], &words[begin + 1..end], out, at)
+    line_clauses(
+        rule,
+        &table[place..place + 68],
+        &words[begin + 1..end],
+        out,
+        at,
+    )
 }
 
 // The n lines from line `from` on, which have `count` clauses.

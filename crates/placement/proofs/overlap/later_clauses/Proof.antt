@@ -3,15 +3,14 @@ use native.Mathlib.Omega.{arith}
 use lib.ListN.{length}
 use Rattle.sections.specs.Sections.{clausesWords}
 use Rattle.numbering.specs.Tables.{lineOf}
-use Rattle.placement.specs.PairRows.{apart, rowsFrom}
 use Rattle.placement.proofs.LateLoops.{EmittingFrom, from-room, from-next, from-kept}
-use Rattle.placement.proofs.BlockLoops.{InRange, in-range, later-first, later-done}
+use Rattle.placement.proofs.BlockLoops.{InRange, rowsOf, in-range, later-first, later-done}
 use borrow.Author.Needs.{needs}
 use Rattle.placement.proofs.overlap.later_clauses.Statement.{statement}
 use Rattle.placement.proofs.overlap.later_clauses.Tie as tie
 
 abbrev Inv-loop : tie.InvT-loop
-Inv-loop a line clue out₀ at first p to₀ b₀ b-end out to b = EmittingFrom (a + 1) (length clue / 2) (λ k. clausesWords (rowsFrom (first + a * p) (first + k * p) (apart (lineOf line clue) a k) p)) out₀ at out to b
+Inv-loop a line clue out₀ at first p to₀ b₀ b-end out to b = EmittingFrom (a + 1) (length clue / 2) (λ k. clausesWords (rowsOf (lineOf line clue) first p a k)) out₀ at out to b
 
 abbrev μ-loop : tie.MeasureT-loop
 μ-loop a line clue out₀ at first p to₀ b₀ b-end out to b = length clue / 2 - b
