@@ -77,6 +77,9 @@ module _ (line clue : List ℕ) {n p : ℕ} (ne : n ≡ length clue / 2) (pe : p
     unfolding measured spaceIn
     space-are e = rw (e, se, positions-are) (sym (sum-times (many (lineOf line clue)) (lineOf line clue .positions) (λ b. at (lineOf line clue .runs) b .size)))
 
+pub ready-few : (ws table : List ℕ) → Ready ws table → lines (puzzle ws) ≤ 128
+ready-few ws table R = omega (arith, R .good .width-most, R .good .height-most)
+
 pub lines-first : (ws table : List ℕ) → Ready ws table → (m : Measure) (l n : ℕ) → l + n ≤ lines (puzzle ws) → Summing n (most m) (λ k. measured m (lineAt (puzzle ws) (l + k))) 0 0
 lines-first ws table R m l n h = summing-first n (most m) _ (λ k i. measured-most m (line-sound (puzzle ws) (R .good) (l + k) (omega arith)))
 

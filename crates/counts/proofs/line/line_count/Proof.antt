@@ -8,6 +8,11 @@ use Rattle.counts.proofs.Countings.{line-small, blocks-are, once-are, o
 use native.Mathlib.Omega.{arith}
 use native.Mathlib.Nat.{mul-le-mul-right}
 use Prim.Native.Nat.{_-_}
+use mathlib.Core.Path.{refl}
+use Rattle.counts.proofs.Countings.{line-small, blocks-are, once-are, overlap-are, space-small, space-are}
+use native.Mathlib.Omega.{arith}
+use native.Mathlib.Nat.{mul-le-mul-right}
+use Prim.Native.Nat.{_-_}
 use borrow.Author.Needs.{needs}
 use Rattle.counts.proofs.line.line_count.Statement.{statement}
 use Rattle.counts.proofs.line.line_count.Tie as tie
@@ -33,7 +38,7 @@ sub-result : tie.Need-sub-result
 sub-result c = omega (arith, line-small (c .before .before .before .before .before .before .args .line .now) (c .before .before .before .before .before .before .args .clue .now) refl (c .before .before .wide .ensures) (c .before .before .before .before .before .before .pre .0))
 
 mul-result : tie.Need-mul-result
-mul-result c = omega (arith, mul-le-mul-right {m = c .before .before .wide .result} {n = 65} (c .before .before .wide .result - 1) (line-small (c .before .before .before .before .before .before .args .line .now) (c .before .before .before .before .before .before .args .clue .now) refl (c .before .before .wide .ensures) (c .before .before .before .before .before .before .pre .0) .1 .0), line-small (c .before .before .before .before .before .before .args .line .now) (c .before .before .before .before .before .before .args .clue .now) refl (c .before .before .wide .ensures) (c .before .before .before .before .before .before .pre .0))
+mul-result c = omega (arith, mul-le-mul-right {m = c .before .before .wide .result} {n = 65} (c .before .before .wide .result - 1) (omega (arith, line-small (c .before .before .before .before .before .before .args .line .now) (c .before .before .before .before .before .before .args .clue .now) refl (c .before .before .wide .ensures) (c .before .before .before .before .before .before .pre .0))), line-small (c .before .before .before .before .before .before .args .line .now) (c .before .before .before .before .before .before .args .clue .now) refl (c .before .before .wide .ensures) (c .before .before .before .before .before .before .pre .0))
 
 mul-result-2 : tie.Need-mul-result-2
 mul-result-2 c = omega (arith, line-small (c .before .before .before .before .before .before .args .line .now) (c .before .before .before .before .before .before .args .clue .now) refl (c .before .before .wide .ensures) (c .before .before .before .before .before .before .pre .0))
