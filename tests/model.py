@@ -499,12 +499,12 @@ def random_colors(r):
     return r.sample(range(1, 32), r.choice([0, 1, 1, 2, 3, 5]))
 
 
-def random_picture(r, most=64):
+def random_picture(r, most=(64, 64)):
     """Width, height and the cells of a picture, in a few colours; now and then the one whose puzzle has the most words, a chequered one of 64 by 64."""
-    if most == 64 and r.random() < 0.003:
+    if most == (64, 64) and r.random() < 0.003:
         a, b = r.sample(range(1, 32), 2)
         return 64, 64, [a if (i // 64 + i) % 2 else b for i in range(64 * 64)]
-    width, height = random_size(r, most), random_size(r, most)
+    width, height = random_size(r, most[0]), random_size(r, most[1])
     palette = [0] * r.randint(1, 3) + random_colors(r)
     cells = []
     for _ in range(width * height):
@@ -539,7 +539,7 @@ def random_clue(r, length, K):
 
 
 def random_puzzle(r, most):
-    """An accepted puzzle of at most so many columns and rows: columns, rows and masks."""
+    """An accepted puzzle of at most so many columns and so many rows: columns, rows and masks."""
     width, height, cells = random_picture(r, most)
     if r.random() < 0.6:
         columns = [runs(line) for line in columns_of(width, cells)]
@@ -599,7 +599,7 @@ def damaged(r, words):
     return words
 
 
-def random_words(r, most=64):
+def random_words(r, most=(64, 64)):
     """Words of a puzzle, half of them damaged and a few with misfits."""
     parts = random_puzzle(r, most)
     kind = r.randrange(8)
@@ -614,8 +614,8 @@ def random_words(r, most=64):
 
 
 def random_list_case(r, entry):
-    """Half are accepted puzzles, so that the lists are held against each other often; those of clauses are at most 6 by 6, so that few words are needed."""
-    most = 6 if entry == "clauses" else 64
+    """Half are accepted puzzles and no other, so that many are. The boards of clauses are small or narrow, so that few words are needed."""
+    most = r.choice([(6, 6), (6, 6), (12, 2), (2, 12)]) if entry == "clauses" else (64, 64)
     args = puzzle_words(*random_puzzle(r, most)) if r.random() < 0.5 else random_words(r, most)
     return entry, random_room(r, entry, args), args
 
