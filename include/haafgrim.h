@@ -45,6 +45,16 @@ uint32_t haafgrim_read_grid(size_t width, size_t height, const uint8_t *grid, si
 /* The grid's columns as rows: a grid of `height` bytes a row, any bytes. Needs as many bytes as the grid has. Refuses: 2, 7, 12. */
 uint32_t haafgrim_transpose(size_t width, size_t height, const uint8_t *grid, size_t grid_len, uint8_t *out, size_t out_len, size_t *place);
 
+/* The clauses of a puzzle, which is given as words such as haafgrim_read_grid writes: ten sections, each its number of clauses, then for each clause its number
+ * of literals and its literals, v or -v. Variables count from 1: per column and block its positions, per row and block its positions, then per cell, row by row,
+ * the colours of the rows, ascending (colour 1 where there are none). Needs as many words as haafgrim_counts writes last.
+ * Refuses: 1, 2, 3, 4, 5, 7, 8, 11, 6, 9, 10, 12. */
+uint32_t haafgrim_clauses(const uint32_t *puzzle, size_t puzzle_len, int32_t *out, size_t out_len, size_t *place);
+
+/* For the same words: how many variables there are, how many clauses in each of the ten sections, how many literals in all, and how many words the clauses need.
+ * Needs 13 numbers. Refuses: 1, 2, 3, 4, 5, 7, 8, 11, 6, 9, 10, 12. */
+uint32_t haafgrim_counts(const uint32_t *puzzle, size_t puzzle_len, uint64_t *out, size_t out_len, size_t *place);
+
 #ifdef __cplusplus
 }
 #endif

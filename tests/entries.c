@@ -1,5 +1,6 @@
 /* Holds every answer of the C entries against expectations from elsewhere: small lines and clues by trying every line
- * there is, grids cell by cell, the rest by hand. Ends at the first wrong answer, with status 1. */
+ * there is, grids cell by cell, clauses by trying every assignment and every picture, the rest by hand. Ends at the first
+ * wrong answer, with status 1. */
 #include "haafgrim.h"
 #include <stdio.h>
 #include <stdlib.h>
@@ -10,9 +11,10 @@
 
 /* The words of a grid are at most MOST; SPARE are lent beyond. LONGEST is a little more than a grid of 65 by 65 bytes. */
 enum { PAD = 4, ROOM = 132, RANGES = 62, CELLS = 64 * 64, MOST = 20611, SPARE = 40, LONGEST = 4300 };
-enum entry { TWO_POWERS, FROM_TWO_POWERS, READ_LINE, STARTS, COLOR_RANGES, READ_GRID, TRANSPOSE };
+enum { SECTIONS = 10, NUMBERS = 13 };
+enum entry { TWO_POWERS, FROM_TWO_POWERS, READ_LINE, STARTS, COLOR_RANGES, READ_GRID, TRANSPOSE, CLAUSES, COUNTS };
 static const char *const names[] = {"two_powers", "from_two_powers", "read_line", "starts", "color_ranges", "read_grid",
-                                    "transpose"};
+                                    "transpose", "clauses", "counts"};
 
 /* `sizes` are the mask of two_powers, the line length of a clue, or the width and the height of a grid. */
 struct call { enum entry entry; size_t sizes[2]; const void *in; size_t in_len; };
@@ -26,7 +28,8 @@ struct want { uint32_t number; size_t place; size_t count; uint32_t words[ROOM];
 /* The answer and all memory that a call is shown, with words around what it is lent. Only the first words are in use. */
 struct world {
     size_t number, place[3], in_used, out_used;
-    uint32_t in[LONGEST / 4 + PAD], out[PAD + MOST + SPARE + PAD];
+    uint32_t in[MOST + PAD];
+    _Alignas(uint64_t) uint32_t out[PAD + MOST + SPARE + PAD];
 };
 
 /* Some of these are right in fewer bits, or have a right product. */
@@ -39,7 +42,7 @@ static size_t in_bytes(const struct call *c) {
 }
 
 static size_t out_bytes(const struct call *c, size_t count) {
-    return c->entry == TRANSPOSE ? count : count * sizeof(uint32_t);
+    return c->entry == TRANSPOSE ? count : count * (c->entry == COUNTS ? sizeof(uint64_t) : sizeof(uint32_t));
 }
 
 /* The words that are in use for so many bytes. */
@@ -82,7 +85,9 @@ static uint32_t perform(struct world *w, const struct call *c, size_t out_len, i
     case STARTS: return haafgrim_starts(sizes[0], in, c->in_len, out, out_len, place);
     case COLOR_RANGES: return haafgrim_color_ranges(sizes[0], in, c->in_len, out, out_len, place);
     case READ_GRID: return haafgrim_read_grid(sizes[0], sizes[1], bytes, c->in_len, out, out_len, place);
-    default: return haafgrim_transpose(sizes[0], sizes[1], bytes, c->in_len, (uint8_t *)out, out_len, place);
+    case TRANSPOSE: return haafgrim_transpose(sizes[0], sizes[1], bytes, c->in_len, (uint8_t *)out, out_len, place);
+    case CLAUSES: return haafgrim_clauses(in, c->in_len, (int32_t *)out, out_len, place);
+    default: return haafgrim_counts(in, c->in_len, (uint64_t *)out, out_len, place);
     }
 }
 
@@ -136,6 +141,16 @@ static void check(struct call c, const struct want *x) {
         check_lent(c, answer_of(x), out_len);
 }
 
+/* Every length of the lent buffer where few are needed; else none, too few, just enough and more. */
+static void check_some(struct call c, struct answer x) {
+    size_t need = x.number != 0 ? MOST : x.count;
+    const size_t some[] = {0, 1, need / 2, need - 1, need, need + 1, need + SPARE};
+    for (size_t i = 0; need <= ROOM / 2 && i <= need + PAD; i++)
+        check_lent(c, x, i);
+    for (size_t i = 0; need > ROOM / 2 && i < COUNT(some); i++)
+        check_lent(c, x, some[i]);
+}
+
 static void push(struct want *x, uint32_t word) {
     x->words[x->count++] = word;
 }
@@ -177,17 +192,17 @@ static void check_line(const uint8_t *line, size_t n, uint32_t number, size_t pl
     check((struct call){READ_LINE, {0}, line, n}, &x);
 }
 
-/* The line numbered `code` of all lines of n cells over 0, 1, 2. */
-static void small_line(uint8_t *line, size_t n, uint32_t code) {
-    for (size_t i = 0; i < n; i++)
-        line[i] = (uint8_t)(code / power(3, i) % 3);
+/* The line numbered `code` of all lines of n cells over so many colours, blank is one of them. */
+static void small_line(uint8_t *line, size_t n, uint32_t colors, uint32_t code) {
+    for (size_t i = 0; i < n; i++, code /= colors)
+        line[i] = (uint8_t)(code % colors);
 }
 
 static void small_lines(void) {
     uint8_t line[6];
     for (size_t n = 1; n <= 6; n++)
         for (uint32_t code = 0; code < power(3, n); code++) {
-            small_line(line, n, code);
+            small_line(line, n, 3, code);
             check_line(line, n, 0, 0);
         }
 }
@@ -254,7 +269,7 @@ static size_t try_lines(size_t n, const uint32_t *clue, size_t words, struct spa
         uint8_t line[6];
         uint32_t begins[6];
         struct want runs = {0};
-        small_line(line, n, code);
+        small_line(line, n, 3, code);
         read_naively(line, n, &runs, begins);
         if (runs.count != words || memcmp(runs.words, clue, words * sizeof *clue) != 0)
             continue;
@@ -463,15 +478,8 @@ static void joins(void) {
 
 /* ---- Grids ---- */
 
-/* Every length of the lent buffer where few are needed; else none, too few, just enough and more. */
 static void check_grid_call(enum entry entry, size_t width, size_t height, const uint8_t *cells, size_t n, struct answer x) {
-    size_t need = x.number != 0 ? MOST : x.count;
-    const size_t some[] = {0, 1, need / 2, need - 1, need, need + 1, need + SPARE};
-    struct call c = {entry, {width, height}, cells, n};
-    for (size_t i = 0; need <= ROOM / 2 && i <= need + PAD; i++)
-        check_lent(c, x, i);
-    for (size_t i = 0; need > ROOM / 2 && i < COUNT(some); i++)
-        check_lent(c, x, some[i]);
+    check_some((struct call){entry, {width, height}, cells, n}, x);
 }
 
 /* The number of blocks of a line, and its blocks. Answers how many words these are. */
@@ -577,7 +585,7 @@ static void small_grids(void) {
     for (size_t width = 1; width <= 3; width++)
         for (size_t height = 1; height <= 3; height++)
             for (uint32_t code = 0; code < power(3, width * height); code++) {
-                small_line(cells, width * height, code);
+                small_line(cells, width * height, 3, code);
                 check_grid(width, height, cells);
             }
 }
@@ -715,6 +723,433 @@ static void refused_grid_cells(void) {
         check_refused_grid(2, 3, (const uint8_t[]){0, 31, 1, (uint8_t)byte, 32, 0}, 6, 18, 3);
 }
 
+/* ---- Clauses by hand ---- */
+
+static struct call puzzle_call(enum entry entry, const uint32_t *puzzle, size_t n) {
+    return (struct call){entry, {0}, puzzle, n};
+}
+
+/* With every length of the lent buffer up to two more than needed. */
+static void check_all(struct call c, struct answer x) {
+    for (size_t out_len = 0; out_len <= x.count + 2; out_len++)
+        check_lent(c, x, out_len);
+}
+
+/* P8 (P9 is P8 in 25 words), P10 and P12; cells column by column in sections 7 to 9 and row by row in 10; different
+ * colours that may touch, so that section 6 has one clause; four positions; masks with K = 3 and 31: blank, 31, blank or 3,
+ * two bits outside K. */
+static void clauses_by_hand(void) {
+    static const struct {
+        size_t n;
+        uint32_t puzzle[20];
+        size_t count;
+        int32_t clauses[120];
+        uint64_t numbers[NUMBERS];
+    } rows[] = {
+        {WORDS(1, 1, 1, 1, 1, 1, 1, 1, 1, 3),
+         WORDS(1, 1, 1, 1, 1, 2, 0, 0, 0, 0, 2, 2, 1, -3, 2, 2, -3, 2, 2, -1, 3, 2, -2, 3, 0, 0),
+         {3, 1, 1, 0, 0, 0, 0, 2, 2, 0, 0, 10, 26}},
+        {WORDS(2, 1, 1, 1, 0, 1, 1, 1, 1, 2, 3, 3),
+         WORDS(1, 1, 1, 1, 2, 2, 3, 0, 1, 2, -2, -3, 0, 0, 4, 2, 1, -4, 2, 2, -4, 1, -5, 2, 3, -5,
+               3, 2, -1, 4, 2, -2, 4, 2, -3, 5, 0, 0),
+         {5, 1, 1, 0, 1, 0, 0, 4, 3, 0, 0, 18, 38}},
+        {WORDS(1, 0, 1, 0, 1, 3),
+         WORDS(0, 0, 0, 0, 0, 0, 2, 1, -1, 1, -1, 0, 0, 0),
+         {1, 0, 0, 0, 0, 0, 0, 2, 0, 0, 0, 2, 14}},
+        {WORDS(2, 1, 1, 1, 1, 1, 2, 2, 1, 1, 1, 1, 1, 2, 4, 7, 2, 5, 7),
+         WORDS(2, 2, 1, 2, 2, 3, 4, 2, 2, 5, 6, 2, 7, 8, 2, 2, -1, -2, 2, -3, -4, 2, 2, -5, -6, 2, -7, -8, 0, 0,
+               16, 2, 1, -9, 2, 5, -9, 1, -10, 1, -10, 2, 2, -13, 1, -13, 1, -14, 2, 7, -14,
+               1, -11, 2, 6, -11, 2, 3, -12, 1, -12, 1, -15, 1, -15, 2, 4, -16, 2, 8, -16,
+               8, 2, -1, 9, 2, -5, 9, 2, -2, 13, 2, -7, 14, 2, -6, 11, 2, -3, 12, 2, -4, 16, 2, -8, 16,
+               4, 2, -9, -10, 2, -13, -14, 2, -11, -12, 2, -15, -16, 2, 1, 11, 1, -13),
+         {16, 2, 2, 2, 2, 0, 0, 16, 8, 4, 2, 66, 114}},
+        {WORDS(3, 0, 0, 0, 1, 2, 1, 1, 1, 2, 3, 7, 7, 7),
+         WORDS(0, 2, 2, 1, 2, 2, 3, 4, 0, 2, 2, -1, -2, 2, -3, -4, 0, 1, 2, -2, -3,
+               12, 1, -5, 2, 1, -5, 1, -6, 1, -6, 1, -7, 2, 2, -7, 1, -8, 2, 3, -8, 1, -9, 1, -9, 1, -10, 2, 4, -10,
+               4, 2, -1, 5, 2, -2, 7, 2, -3, 8, 2, -4, 10, 3, 2, -5, -6, 2, -7, -8, 2, -9, -10, 0),
+         {10, 0, 2, 0, 2, 0, 1, 12, 4, 3, 0, 40, 74}},
+        {WORDS(4, 0, 0, 0, 0, 1, 1, 1, 1, 4, 3, 3, 3, 3),
+         WORDS(0, 1, 4, 1, 2, 3, 4, 0, 6, 2, -1, -2, 2, -1, -3, 2, -1, -4, 2, -2, -3, 2, -2, -4, 2, -3, -4, 0, 0,
+               8, 1, -5, 2, 1, -5, 1, -6, 2, 2, -6, 1, -7, 2, 3, -7, 1, -8, 2, 4, -8,
+               4, 2, -1, 5, 2, -2, 6, 2, -3, 7, 2, -4, 8, 0, 0),
+         {8, 0, 1, 0, 6, 0, 0, 8, 4, 0, 0, 36, 65}},
+        {WORDS(1, 0, 4, 1, 1, 3, 1, 1, 31, 0, 0, 4, 1, 1u << 31, 9, 36),
+         WORDS(0, 2, 1, 1, 1, 2, 0, 0, 0, 0, 16, 1, -3, 2, 1, -3, 1, -4, 1, -4, 1, -5, 1, -5, 1, -6, 2, 2, -6,
+               1, -7, 1, -7, 1, -8, 1, -8, 1, -9, 1, -9, 1, -10, 1, -10, 2, 2, -1, 3, 2, -2, 6,
+               4, 2, -3, -4, 2, -5, -6, 2, -7, -8, 2, -9, -10, 6, 1, -3, 1, -4, 1, 6, 1, -8, 1, -9, 1, -10),
+         {10, 0, 2, 0, 0, 0, 0, 16, 2, 4, 6, 38, 78}},
+    };
+    for (size_t i = 0; i < COUNT(rows); i++) {
+        check_all(puzzle_call(CLAUSES, rows[i].puzzle, rows[i].n), (struct answer){0, 0, rows[i].count, rows[i].clauses});
+        check_all(puzzle_call(COUNTS, rows[i].puzzle, rows[i].n), (struct answer){0, 0, NUMBERS, rows[i].numbers});
+    }
+}
+
+/* Document 01's changes of P8, and more; many rows have a second fault, which comes later in the order, and a short buffer
+ * comes last of all. */
+static void refused_puzzles(void) {
+    static const struct { size_t n; uint32_t puzzle[16], number; size_t place; } rows[] = {
+        {0, {0}, 1, 0}, {WORDS(0, 1, 1, 1, 1, 1, 1, 1, 1, 3), 2, 0}, {WORDS(65, 1, 1, 1, 1, 1, 1, 1, 1, 3), 2, 0},
+        {WORDS(1, 1, 2, 1, 1, 1, 1, 1, 1, 3), 6, 0}, {WORDS(1, 1, 1, 2, 1, 1, 1, 1, 1, 3), 9, 0},
+        {WORDS(1, 1, 1, 1, 1, 1, 1, 1, 1, 0), 8, 9}, {WORDS(1, 1, 1, 1, 1, 1, 1, 1, 1, 4), 10, 0},
+        {WORDS(1, 1, 1, 1, 1, 1, 1, 1, 1, 3, 1), 11, 10},
+        {WORDS(1), 1, 1}, {WORDS(1, 1, 1, 1, 1, 1, 1, 1, 1), 1, 9}, {WORDS(2, 0), 1, 2}, {WORDS(1, 0, 0, 65), 2, 2},
+        {WORDS(1, 65, 0), 3, 1}, {WORDS(1, 0, 1, UINT32_MAX), 3, 3}, {WORDS(1, 1, 0), 4, 2}, {WORDS(1, 1, 0, 0, 0), 4, 2},
+        {WORDS(1, 1, 1, 32, 0), 5, 3}, {WORDS(1, 0, 1, 1, 1, 0, 2), 5, 5}, {WORDS(1, 1, 2, 1, 1, 1, 0, 1, 1, 3), 4, 6},
+        {WORDS(1, 1, 2, 1, 1, 1, 1, 1, 1, 0), 8, 9}, {WORDS(1, 1, 2, 1, 1, 1, 1, 1, 2, 3), 7, 8},
+        {WORDS(1, 1, 2, 1, 1, 1, 1, 1, 1, 3, 7), 11, 10}, {WORDS(1, 1, 1, 1, 1, 1, 2, 1, 1, 3), 6, 1},
+        {WORDS(1, 1, 2, 2, 1, 1, 1, 1, 1, 4), 6, 0}, {WORDS(1, 1, 1, 2, 1, 1, 1, 1, 1, 4), 9, 0},
+        {WORDS(2, 0, 1, 1, 2, 1, 0, 2, 3, 3), 9, 1}, {WORDS(2, 0, 0, 1, 0, 2, 3, 8), 10, 1},
+        {WORDS(1, 2, UINT32_MAX, 1, 2, 1, 1, 1, 1, 1, 1, 3), 6, 0},
+    };
+    for (size_t i = 0; i < COUNT(rows); i++) {
+        struct want x = {.number = rows[i].number, .place = rows[i].place};
+        check(puzzle_call(CLAUSES, rows[i].puzzle, rows[i].n), &x);
+        check(puzzle_call(COUNTS, rows[i].puzzle, rows[i].n), &x);
+    }
+}
+
+/* ---- Clauses against what they say ---- */
+
+static void expect(int right, const char *what, const uint32_t *puzzle, size_t n) {
+    checks++;
+    if (right)
+        return;
+    printf("wrong: %s; the puzzle of %zu:", what, n);
+    for (size_t i = 0; i < n; i++)
+        printf(" %u", puzzle[i]);
+    printf("\n");
+    exit(1);
+}
+
+static size_t variable_of(int32_t literal) {
+    return (size_t)(literal < 0 ? -(int64_t)literal : literal);
+}
+
+/* The next word; behind the end -1, which is no count. */
+static int32_t next_word(const int32_t *words, size_t n, size_t *at) {
+    return *at < n ? words[(*at)++] : -1;
+}
+
+/* The numbers that counts has to write, found by walking the words of the clauses. The largest variable is their number, since
+ * section 7 names every cell's. Where each clause begins goes to `begins`, if there is such. */
+static void walk(const int32_t *words, size_t n, uint64_t *numbers, size_t *begins) {
+    size_t at = 0;
+    memset(numbers, 0, NUMBERS * sizeof *numbers);
+    for (size_t section = 1; section <= SECTIONS; section++) {
+        int32_t clauses = next_word(words, n, &at);
+        numbers[section] = (uint64_t)clauses;
+        for (int32_t c = 0; c < clauses && at < n; c++) {
+            if (begins != NULL)
+                *begins++ = at;
+            int32_t literals = next_word(words, n, &at);
+            numbers[SECTIONS + 1] += (uint64_t)literals;
+            for (int32_t i = 0; i < literals; i++) {
+                size_t v = variable_of(next_word(words, n, &at));
+                numbers[0] = v > numbers[0] ? v : numbers[0];
+            }
+        }
+    }
+    numbers[SECTIONS + 2] = at;
+}
+
+/* A puzzle of at most SMALL cells, PICTURES pictures and FEW words of clauses. The palette is blank and K. The clauses whose
+ * last variable is v are linked from head[v] on, each by the place where it begins; 0 ends them, since no clause begins there. */
+enum { SMALL = 10, PICTURES = 65536, FEW = 4000 };
+struct small {
+    const uint32_t *puzzle, *lines[2 * SMALL], *masks;
+    size_t n, width, height, variables, head[FEW], next[FEW];
+    int32_t words[FEW];
+    uint8_t palette[32], truth[FEW];
+    uint32_t colors, found[PICTURES];
+};
+
+/* The set bits, as numbers. */
+static uint32_t bits_of(uint32_t mask, uint8_t *bits) {
+    uint32_t n = 0;
+    for (uint8_t k = 0; k < 32; k++)
+        if (has_bit(mask, k))
+            bits[n++] = k;
+    return n;
+}
+
+/* The lines, where their block counts stand; the masks; and the palette, with 1 where no row has a block. */
+static void open_puzzle(struct small *z, const uint32_t *puzzle, size_t n) {
+    size_t line = 0, at = 0;
+    uint32_t mask = 1;
+    z->puzzle = puzzle;
+    z->n = n;
+    z->width = puzzle[0];
+    for (int direction = 0; direction < 2; direction++) {
+        z->height = puzzle[at++];
+        for (size_t i = 0; i < z->height; i++) {
+            z->lines[line++] = puzzle + at;
+            for (size_t b = 0; direction == 1 && b < puzzle[at]; b++)
+                mask |= power(2, puzzle[at + 2 + 2 * b]);
+            at += 1 + 2 * puzzle[at];
+        }
+    }
+    z->masks = puzzle + at + 1;
+    z->colors = bits_of(mask == 1 ? 3 : mask, z->palette);
+}
+
+static void link_clauses(struct small *z, const size_t *begins, size_t clauses) {
+    memset(z->head, 0, sizeof z->head);
+    while (clauses-- > 0) {
+        size_t at = begins[clauses], last = 0;
+        for (int32_t i = 1; i <= z->words[at]; i++)
+            last = variable_of(z->words[at + i]) > last ? variable_of(z->words[at + i]) : last;
+        expect(last != 0 && last < FEW, "an empty clause or a wrong variable", z->puzzle, z->n);
+        z->next[at] = z->head[last];
+        z->head[last] = at;
+    }
+}
+
+/* The clauses, in all rooms or in some, and their numbers. */
+static void check_words(struct small *z, int all) {
+    static size_t begins[FEW];
+    uint64_t numbers[NUMBERS];
+    size_t need, clauses = 0;
+    expect(haafgrim_clauses(z->puzzle, z->n, z->words, FEW, &need) == 0, "not accepted", z->puzzle, z->n);
+    (all ? check_all : check_some)(puzzle_call(CLAUSES, z->puzzle, z->n), (struct answer){0, 0, need, z->words});
+    walk(z->words, need, numbers, begins);
+    for (size_t section = 1; section <= SECTIONS; section++)
+        clauses += numbers[section];
+    expect(numbers[SECTIONS + 2] == need && clauses < need, "not ten sections", z->puzzle, z->n);
+    check_all(puzzle_call(COUNTS, z->puzzle, z->n), (struct answer){0, 0, NUMBERS, numbers});
+    z->variables = numbers[0];
+    link_clauses(z, begins, clauses);
+}
+
+/* Whether the clauses with this last variable are true. */
+static int all_true(const struct small *z, size_t v) {
+    for (size_t at = z->head[v]; at != 0; at = z->next[at]) {
+        int some = 0;
+        for (int32_t i = 1; i <= z->words[at]; i++)
+            some |= z->truth[variable_of(z->words[at + i])] == (z->words[at + i] > 0);
+        if (!some)
+            return 0;
+    }
+    return 1;
+}
+
+/* The number, as in small_line, of the picture that the cell variables show. */
+static uint32_t picture_shown(const struct small *z) {
+    uint32_t k = z->colors - 1, picture = 0;
+    for (size_t cell = z->width * z->height, v = z->variables; cell-- > 0; v -= k) {
+        uint32_t color = 0;
+        for (uint32_t i = 0; i < k; i++)
+            if (z->truth[v - i]) {
+                expect(color == 0, "two colours in a cell", z->puzzle, z->n);
+                color = k - i;
+            }
+        picture = picture * z->colors + color;
+    }
+    return picture;
+}
+
+/* Counts, for each picture, the assignments that show it and make every clause true; the variables below v have theirs. */
+static void assign(struct small *z, size_t v) {
+    if (v > z->variables) {
+        z->found[picture_shown(z)]++;
+        return;
+    }
+    for (uint8_t truth = 0; truth < 2; truth++) {
+        z->truth[v] = truth;
+        if (all_true(z, v))
+            assign(z, v + 1);
+    }
+}
+
+/* A solved cell has its colour; any other is blank or has a colour of its mask. */
+static int obeys(uint32_t mask, uint8_t color) {
+    int solved = (mask & (mask - 1)) == 0, has_color = mask >> color & 1;
+    return solved ? has_color : color == 0 || has_color;
+}
+
+/* Whether each column and row reads as its clue, and each cell obeys its mask. */
+static int solves(const struct small *z, const uint8_t *cells) {
+    for (size_t i = 0; i < z->width * z->height; i++)
+        if (!obeys(z->masks[i], cells[i]))
+            return 0;
+    for (size_t l = 0; l < z->width + z->height; l++) {
+        size_t first = l < z->width ? l : (l - z->width) * z->width, step = l < z->width ? z->width : 1;
+        size_t length = l < z->width ? z->height : z->width, place;
+        uint8_t line[SMALL];
+        uint32_t runs[2 * SMALL];
+        for (size_t i = 0; i < length; i++)
+            line[i] = cells[first + i * step];
+        haafgrim_read_line(line, length, runs, 2 * SMALL, &place);
+        if (place != 2 * z->lines[l][0] || memcmp(runs, z->lines[l] + 1, place * sizeof *runs) != 0)
+            return 0;
+    }
+    return 1;
+}
+
+/* The clauses have one assignment for each picture that solves the puzzle, and none for any other. Answers how many pictures
+ * do. */
+static size_t check_small(const uint32_t *puzzle, size_t n, int all) {
+    static struct small z;
+    size_t solutions = 0;
+    open_puzzle(&z, puzzle, n);
+    check_words(&z, all);
+    memset(z.found, 0, power(z.colors, z.width * z.height) * sizeof *z.found);
+    assign(&z, 1);
+    for (uint32_t picture = 0; picture < power(z.colors, z.width * z.height); picture++) {
+        uint8_t cells[SMALL];
+        small_line(cells, z.width * z.height, z.colors, picture);
+        for (size_t i = 0; i < z.width * z.height; i++)
+            cells[i] = z.palette[cells[i]];
+        size_t right = (size_t)solves(&z, cells);
+        expect(z.found[picture] == right, "clauses that let too many or too few pictures through", puzzle, n);
+        solutions += right;
+    }
+    return solutions;
+}
+
+/* The puzzles of all grids of these sizes over so many colours, each solved by its grid at least. */
+static void boards_of(size_t width, size_t height, uint32_t colors) {
+    uint32_t words[ROOM];
+    uint8_t cells[SMALL];
+    for (uint32_t code = 0; code < power(colors, width * height); code++) {
+        size_t n;
+        small_line(cells, width * height, colors, code);
+        haafgrim_read_grid(width, height, cells, width * height, words, ROOM, &n);
+        expect(check_small(words, n, width * height <= 4) > 0, "no picture", words, n);
+    }
+}
+
+/* Two colours on up to 6 cells, one on up to 10. */
+static void small_boards(void) {
+    for (size_t width = 1; width <= SMALL; width++)
+        for (size_t height = 1; height <= SMALL / width; height++)
+            boards_of(width, height, width * height <= 6 ? 3 : 2);
+}
+
+/* Most let the cell's own colour through: solved in it, unsolved with it. The others are solved in any of these colours or any
+ * unsolved mask. */
+static uint32_t random_mask(uint8_t own, const uint8_t *palette, uint32_t colors) {
+    uint32_t kind = random_word() % 16, mask = random_word() & random_word() & (kind % 2 == 0 ? random_word() : UINT32_MAX);
+    if (kind < 4)
+        return power(2, kind == 0 ? palette[random_word() % colors] : own);
+    mask |= kind == 4 ? 0 : power(2, own);
+    return (mask & (mask - 1)) == 0 ? UINT32_MAX : mask;
+}
+
+/* The puzzle of a grid, whose columns' clues may come from another grid in its colours, with masks at random. */
+static size_t random_puzzle(size_t width, size_t height, const uint8_t *cells, const uint8_t *other, uint32_t *words) {
+    static uint32_t rest[MOST];
+    uint8_t palette[32];
+    size_t n, at, from, area = width * height;
+    uint32_t colors = bits_of(mask_naively(cells, area), palette);
+    haafgrim_read_grid(width, height, other, area, words, MOST, &n);
+    haafgrim_read_grid(width, height, cells, area, rest, MOST, &n);
+    at = section_length(words);
+    from = section_length(rest);
+    memcpy(words + at, rest + from, (n - from) * sizeof *words);
+    n = at + n - from;
+    for (size_t i = 0; i < area; i++)
+        words[n - area + i] = random_mask(cells[i], palette, colors);
+    return n;
+}
+
+/* Colours with holes between them. In a third of the rounds the columns have another grid's clues, most often without a
+ * picture. */
+static void random_boards(void) {
+    static const struct { uint32_t colors; uint8_t palette[4]; } kinds[] = {
+        {2, {0, 1}}, {2, {0, 31}}, {3, {0, 3, 17}}, {3, {0, 30, 31}}, {4, {0, 3, 17, 31}}};
+    static const size_t sizes[][2] = {{3, 3}, {2, 3}, {4, 2}, {2, 4}, {5, 2}, {2, 5}, {6, 1}, {1, 6}, {3, 2}, {2, 2}};
+    static uint32_t words[MOST];
+    size_t solutions = 0;
+    for (size_t round = 0; round < 3000; round++) {
+        size_t kind = random_word() % COUNT(kinds), size = random_word() % COUNT(sizes);
+        size_t width = sizes[size][0], height = sizes[size][1], area = width * height;
+        uint32_t colors = kinds[kind].colors, strange = random_word() % 3 == 0;
+        uint8_t cells[SMALL], other[SMALL];
+        if (power(colors, area) > PICTURES)
+            continue;
+        for (size_t i = 0; i < area; i++)
+            other[i] = cells[i] = kinds[kind].palette[random_word() % colors];
+        for (size_t i = 0; strange && i < area; i++)
+            other[i] = cells[random_word() % area];
+        solutions += check_small(words, random_puzzle(width, height, cells, other, words), 0);
+    }
+    expect(solutions > 1000, "hardly any picture", NULL, 0);
+}
+
+/* ---- Clauses of large boards ---- */
+
+static int untouched(const int32_t *words, size_t from, size_t to) {
+    while (from < to && words[from] == 0x5A5A5A5A)
+        from++;
+    return from == to;
+}
+
+/* In memory of their own: nothing is written where a word is missing, nothing behind what is needed; and counts agrees. */
+static void check_large(const uint32_t *puzzle, size_t n) {
+    uint64_t said[NUMBERS], numbers[NUMBERS];
+    size_t place, need;
+    int32_t *words;
+    expect(haafgrim_counts(puzzle, n, said, NUMBERS, &place) == 0 && place == NUMBERS, "counts refused", puzzle, n);
+    need = said[SECTIONS + 2];
+    expect(need > SECTIONS && need < 100000000, "a wrong number of words", puzzle, n);
+    words = malloc((need + PAD) * sizeof *words);
+    expect(words != NULL, "no memory", puzzle, n);
+    memset(words, 0x5A, (need + PAD) * sizeof *words);
+    expect(haafgrim_clauses(puzzle, n, words, need - 1, &place) == 12 && place == need, "one word less", puzzle, n);
+    expect(untouched(words, 0, need + PAD), "one word less, and something written", puzzle, n);
+    expect(haafgrim_clauses(puzzle, n, words, need + PAD, &place) == 0 && place == need, "room enough", puzzle, n);
+    expect(untouched(words, need, need + PAD), "written behind the clauses", puzzle, n);
+    walk(words, need, numbers, NULL);
+    expect(memcmp(said, numbers, sizeof said) == 0, "counts that are not those of the clauses", puzzle, n);
+    free(words);
+}
+
+static void large_boards(void) {
+    static const uint32_t colors[] = {1, 4, 31};
+    static uint32_t words[MOST];
+    uint8_t cells[CELLS];
+    for (size_t round = 0; round < 60; round++) {
+        size_t width = round < 3 ? 64 : 1 + random_word() % 64, height = round < 3 ? 64 : 1 + random_word() % 64;
+        random_cells(cells, width, height, colors[round % 3]);
+        check_large(words, random_puzzle(width, height, cells, cells, words));
+    }
+}
+
+/* A clue of single cells, whose colours go round. */
+static size_t put_clue(uint32_t *words, uint32_t blocks, uint32_t colors) {
+    words[0] = blocks;
+    fill(words + 1, blocks, 1, colors);
+    return 1 + 2 * blocks;
+}
+
+/* 64 by 64 with every mask of all bits. Each line has so many blocks, in two colours by turns, but the first row has a number
+ * of its own and 31 colours. No blocks at all; 31 colours in one row; the most variables that a puzzle has, 262,144. The
+ * numbers come from document 01's formulas. */
+static void largest_boards(void) {
+    static const struct { uint32_t blocks, first; uint64_t numbers[NUMBERS]; } rows[] = {
+        {0, 0, {4096, 0, 0, 0, 0, 0, 0, 8192, 0, 0, 0, 8192, 16394}},
+        {0, 31, {128030, 0, 31, 0, 17391, 0, 143995, 253952, 1054, 1904640, 0, 4390220, 6711293}},
+        {32, 32, {262144, 2048, 2048, 1081344, 1081344, 9252352, 9246915, 253952, 135168, 1904640, 0, 45927814, 68887635}},
+    };
+    static uint32_t words[MOST];
+    for (size_t i = 0; i < COUNT(rows); i++) {
+        size_t n = 0;
+        for (size_t line = 0; line < 128; line++) {
+            if (line % 64 == 0)
+                words[n++] = 64;
+            n += put_clue(words + n, line == 64 ? rows[i].first : rows[i].blocks, line == 64 ? 31 : 2);
+        }
+        words[n++] = CELLS;
+        memset(words + n, 0xFF, CELLS * sizeof *words);
+        n += CELLS;
+        check_all(puzzle_call(COUNTS, words, n), (struct answer){0, 0, NUMBERS, rows[i].numbers});
+        check_lent(puzzle_call(CLAUSES, words, n), (struct answer){0, 0, rows[i].numbers[SECTIONS + 2], NULL}, ROOM);
+        if (rows[i].blocks == 0)
+            check_large(words, n);
+    }
+}
+
 static void group(const char *name, void (*tests)(void)) {
     unsigned long before = checks;
     tests();
@@ -740,6 +1175,12 @@ int main(void) {
     group("refused widths and heights", refused_grid_sizes);
     group("refused grid lengths", refused_grid_lengths);
     group("refused cells", refused_grid_cells);
+    group("clauses by hand", clauses_by_hand);
+    group("refused puzzles", refused_puzzles);
+    group("clauses of boards up to 10 cells", small_boards);
+    group("clauses of random boards, masks and colours", random_boards);
+    group("clauses of large boards", large_boards);
+    group("clauses of the largest boards", largest_boards);
     printf("entries: %lu checks, 0 wrong\n", checks);
     return 0;
 }

@@ -21,6 +21,8 @@ positions p, its least space and the start of each of its blocks.
 """
 import random
 import sys
+from collections import namedtuple
+from itertools import combinations
 
 SEVEN = 7
 
@@ -183,31 +185,195 @@ def color_set(rows):
     return {color for blocks in rows for _, color in blocks} or {1}
 
 
+Position = namedtuple("Position", "variable start end")
+Block = namedtuple("Block", "color positions")
+
+
+class Line:
+    """A column or a row: the word of its block count, its clue and its length; laid, its first variable, p and its blocks with their positions."""
+
+    def __init__(self, begin, clue, length):
+        self.begin, self.clue, self.length = begin, clue, length
+
+    def lay(self, variable):
+        """Numbers the positions of its blocks from this variable on; answers the next variable."""
+        self.variable, self.p, self.blocks = variable, positions(self.length, self.clue), []
+        for start, (size, color) in zip(starts_of(self.clue), self.clue):
+            self.blocks.append(Block(color, [Position(variable + i, start + i, start + i + size) for i in range(self.p)]))
+            variable += self.p
+        return variable
+
+
+class Puzzle:
+    """What accepted words are read as, or else a refusal."""
+
+    def __init__(self, words):
+        reader = Words(words)
+        _, columns = reader.lines()
+        self.rows_at, rows = reader.lines()
+        self.width, self.height = len(columns), len(rows)
+        self.cells_at, self.masks = reader.cells(self.width * self.height)
+        if reader.at < len(words):
+            raise Refused(11, reader.at)
+        self.columns = [Line(begin, clue, self.height) for begin, clue in columns]
+        self.rows = [Line(begin, clue, self.width) for begin, clue in rows]
+        self.lines = self.columns + self.rows
+        for l, line in enumerate(self.lines):
+            if least_space(line.clue) > line.length:
+                raise Refused(6, l)
+        self.K = sorted(color_set([row.clue for row in self.rows]))
+        for x, column in enumerate(self.columns):
+            if any(color not in self.K for _, color in column.clue):
+                raise Refused(9, x)
+        for i, mask in enumerate(self.masks):
+            if is_solved(mask) and bits(mask)[0] not in [0] + self.K:
+                raise Refused(10, i)
+        self.first_cell = 1
+        for line in self.lines:
+            self.first_cell = line.lay(self.first_cell)
+
+    def variable(self, x, y, color):
+        """The variable of a cell and a colour."""
+        return self.first_cell + (y * self.width + x) * len(self.K) + self.K.index(color)
+
+
+def is_solved(mask):
+    return len(bits(mask)) == 1
+
+
 def puzzle(words):
-    reader = Words(words)
-    _, columns = reader.lines()
-    rows_at, rows = reader.lines()
-    width, height = len(columns), len(rows)
-    cells_at, masks = reader.cells(width * height)
-    if reader.at < len(words):
-        raise Refused(11, reader.at)
-    lines = [(begin, blocks, height) for begin, blocks in columns] + [(begin, blocks, width) for begin, blocks in rows]
-    for l, (_, blocks, length) in enumerate(lines):
-        if least_space(blocks) > length:
-            raise Refused(6, l)
-    K = color_set([blocks for _, blocks in rows])
-    for x, (_, blocks) in enumerate(columns):
-        if any(color not in K for _, color in blocks):
-            raise Refused(9, x)
-    for i, mask in enumerate(masks):
-        if len(bits(mask)) == 1 and bits(mask)[0] != 0 and bits(mask)[0] not in K:
-            raise Refused(10, i)
-    out = [width, height, rows_at, cells_at, sum(2 ** color for color in K)]
-    variable = 1
-    for begin, blocks, length in lines:
-        out += [begin, variable] + geometry(length, blocks)
-        variable += len(blocks) * positions(length, blocks)
+    z = Puzzle(words)
+    out = [z.width, z.height, z.rows_at, z.cells_at, sum(2 ** color for color in z.K)]
+    for line in z.lines:
+        out += [line.begin, line.variable] + geometry(line.length, line.clue)
     return out
+
+
+# ---- clauses: ten sections, each a list of lists of literals
+
+def some_position(lines):
+    return [[a.variable for a in block.positions] for line in lines for block in line.blocks]
+
+
+def no_two_positions(lines):
+    return [[-a.variable, -b.variable] for line in lines for block in line.blocks for a, b in combinations(block.positions, 2)]
+
+
+def no_conflict(lines):
+    return [[-a.variable, -b.variable]
+            for line in lines for earlier, later in combinations(line.blocks, 2)
+            for a in earlier.positions for b in later.positions
+            if (a.end >= b.start if earlier.color == later.color else a.end > b.start)]
+
+
+def covering(line, cell, color):
+    return [a.variable for block in line.blocks if block.color == color for a in block.positions if a.start <= cell < a.end]
+
+
+def covered(z):
+    """Section 7."""
+    out = []
+    for x, y in by_column(z):
+        for color in z.K:
+            out.append(covering(z.columns[x], y, color) + [-z.variable(x, y, color)])
+            out.append(covering(z.rows[y], x, color) + [-z.variable(x, y, color)])
+    return out
+
+
+def colored(z):
+    """Section 8."""
+    return [[-v, z.variable(x, y, color)]
+            for x, y in by_column(z) for color in z.K
+            for v in covering(z.columns[x], y, color) + covering(z.rows[y], x, color)]
+
+
+def no_two_colors(z):
+    """Section 9."""
+    return [[-z.variable(x, y, a), -z.variable(x, y, b)] for x, y in by_column(z) for a, b in combinations(z.K, 2)]
+
+
+def by_column(z):
+    return [(x, y) for x in range(z.width) for y in range(z.height)]
+
+
+def masked(z):
+    """Section 10."""
+    out = []
+    for i, mask in enumerate(z.masks):
+        x, y = i % z.width, i // z.width
+        if mask == 1:
+            out += [[-z.variable(x, y, color)] for color in z.K]
+        elif is_solved(mask):
+            out.append([z.variable(x, y, bits(mask)[0])])
+        else:
+            out += [[-z.variable(x, y, color)] for color in z.K if color not in bits(mask)]
+    return out
+
+
+def sections(z):
+    """All ten. That they agree with the formulas is tested here, whoever asks."""
+    out = [rule(lines) for rule in (some_position, no_two_positions, no_conflict) for lines in (z.columns, z.rows)]
+    out += [covered(z), colored(z), no_two_colors(z), masked(z)]
+    variables = z.variable(z.width - 1, z.height - 1, z.K[-1])
+    literals = sum(len(clause) for section in out for clause in section)
+    assert totals(z) == [variables] + [len(section) for section in out] + [literals, len(section_words(out))]
+    return out
+
+
+def section_words(lists):
+    return [n for section in lists for n in [len(section)] + [n for clause in section for n in [len(clause)] + clause]]
+
+
+# ---- counts, by document 01's formulas and not from the lists
+
+def conflicts(line):
+    packed = [(start, start + size, color) for start, (size, color) in zip(starts_of(line.clue), line.clue)]
+    count = 0
+    for (_, end, color), (start, _, other) in combinations(packed, 2):
+        n = max(0, line.p - (start - end + (1 if color != other else 0)))
+        count += n * (n + 1) // 2
+    return count
+
+
+def mask_count(mask, K):
+    if is_solved(mask):
+        return len(K) if mask == 1 else 1
+    return len(K) - len([color for color in K if mask >> color & 1])
+
+
+def totals(z):
+    """Variables, the ten counts of clauses, all literals, words."""
+    both, k, cells = (z.columns, z.rows), len(z.K), z.width * z.height
+    placed = sum(len(line.clue) * line.p for line in z.lines)
+    made = [sum(len(line.clue) for line in lines) for lines in both]
+    made += [sum(len(line.clue) * line.p * (line.p - 1) // 2 for line in lines) for lines in both]
+    made += [sum(conflicts(line) for line in lines) for lines in both]
+    made += [2 * cells * k, sum(line.p * size for line in z.lines for size, _ in line.clue), cells * k * (k - 1) // 2]
+    made += [sum(mask_count(mask, z.K) for mask in z.masks)]
+    of_two = sum(made[2:6]) + made[7] + made[8]
+    literals = placed + 2 * of_two + (made[6] + made[7]) + made[9]
+    return [placed + cells * k] + made + [literals, 10 + sum(made) + literals]
+
+
+# ---- clauses and counts, as calls
+
+# Longer lists are not made: no case lends so many words, so that for them the formulas are enough.
+LISTED = 60000
+
+
+def clauses(words):
+    z = Puzzle(words)
+    needed = totals(z)[-1]
+    if needed > LISTED:
+        raise Refused(12, needed)
+    return section_words(sections(z))
+
+
+def counts(words):
+    z = Puzzle(words)
+    if totals(z)[-1] <= LISTED:
+        sections(z)  # made only to be held against the formulas
+    return totals(z)
 
 
 # ---- grids
@@ -284,6 +450,8 @@ def answer(entry, room, args):
         "color_ranges": lambda: color_ranges(args[0], args[1:]),
         "read_grid": lambda: read_grid(args[0], args[1], args[2:]),
         "transpose": lambda: transpose(args[0], args[1], args[2:]),
+        "clauses": lambda: clauses(args),
+        "counts": lambda: counts(args),
     }
     return lent(room, calls[entry])
 
@@ -323,20 +491,20 @@ def answer_all(lines):
 ODD_WORDS = [0, 1, 2, 3, 30, 31, 32, 33, 63, 64, 65, 66, 2 ** 31, 2 ** 32 - 1]
 
 
-def random_size(r):
-    return r.choice([1, 1, 2, 2, 3, 3, 4, 5, 6, 7, r.randint(8, 20), r.choice([63, 64])])
+def random_size(r, most):
+    return min(most, r.choice([1, 1, 2, 2, 3, 3, 4, 5, 6, 7, r.randint(8, 20), r.choice([63, 64])]))
 
 
 def random_colors(r):
     return r.sample(range(1, 32), r.choice([0, 1, 1, 2, 3, 5]))
 
 
-def random_picture(r):
+def random_picture(r, most=(64, 64)):
     """Width, height and the cells of a picture, in a few colours; now and then the one whose puzzle has the most words, a chequered one of 64 by 64."""
-    if r.random() < 0.003:
+    if most == (64, 64) and r.random() < 0.003:
         a, b = r.sample(range(1, 32), 2)
         return 64, 64, [a if (i // 64 + i) % 2 else b for i in range(64 * 64)]
-    width, height = random_size(r), random_size(r)
+    width, height = random_size(r, most[0]), random_size(r, most[1])
     palette = [0] * r.randint(1, 3) + random_colors(r)
     cells = []
     for _ in range(width * height):
@@ -370,9 +538,9 @@ def random_clue(r, length, K):
     return blocks
 
 
-def random_puzzle(r):
-    """An accepted puzzle: columns, rows and masks."""
-    width, height, cells = random_picture(r)
+def random_puzzle(r, most):
+    """An accepted puzzle of at most so many columns and so many rows: columns, rows and masks."""
+    width, height, cells = random_picture(r, most)
     if r.random() < 0.6:
         columns = [runs(line) for line in columns_of(width, cells)]
         rows = [runs(line) for line in rows_of(width, cells)]
@@ -431,8 +599,9 @@ def damaged(r, words):
     return words
 
 
-def random_puzzle_case(r):
-    parts = random_puzzle(r)
+def random_words(r, most=(64, 64)):
+    """Words of a puzzle, half of them damaged and a few with misfits."""
+    parts = random_puzzle(r, most)
     kind = r.randrange(8)
     if kind >= 6:
         parts = misfit(r, *parts)
@@ -441,15 +610,27 @@ def random_puzzle_case(r):
         words = damaged(r, words)
     elif kind == 7 and r.random() < 0.3:
         words.append(r.choice(ODD_WORDS))
-    return "puzzle", 0, words
+    return words
+
+
+def random_list_case(r, entry):
+    """Half are accepted puzzles and no other, so that many are. The boards of clauses are small or narrow, so that few words are needed."""
+    most = r.choice([(6, 6), (6, 6), (12, 2), (2, 12)]) if entry == "clauses" else (64, 64)
+    args = puzzle_words(*random_puzzle(r, most)) if r.random() < 0.5 else random_words(r, most)
+    return entry, random_room(r, entry, args), args
+
+
+def random_room(r, entry, args):
+    """What is needed, one less, more, or hardly any."""
+    _, needed, _ = answer(entry, LISTED, args)
+    return max(0, needed + r.choice([-1, 0, 0, 0, 1, 3])) if r.random() < 0.8 else r.randrange(4)
 
 
 def random_grid_case(r, entry):
     width, height, cells = random_picture(r)
     if entry == "transpose":
         cells = [r.choice([cell, r.randrange(256)]) for cell in cells]
-    kind = r.randrange(6)
-    if kind == 0:
+    if r.random() < 0.15:
         for _ in range(r.randint(1, 3)):
             cells[r.randrange(len(cells))] = r.choice([31, 32, 33, 64, 255])
     if r.random() < 0.15:
@@ -457,17 +638,25 @@ def random_grid_case(r, entry):
     if r.random() < 0.15:
         cells = r.choice([cells[1:], cells + [r.randrange(40)], cells[:r.randrange(len(cells))]])
     args = [width, height] + cells
-    _, needed, _ = answer(entry, 10 ** 6, args)
-    room = max(0, needed + r.choice([-1, 0, 0, 0, 1, 3])) if kind != 1 else r.randrange(4)
-    return entry, room, args
+    return entry, random_room(r, entry, args), args
+
+
+def random_case(r):
+    kind = r.random()
+    if kind < 0.35:
+        return "puzzle", 0, random_words(r)
+    if kind < 0.6:
+        return random_list_case(r, "clauses")
+    if kind < 0.7:
+        return random_list_case(r, "counts")
+    return random_grid_case(r, "read_grid" if kind < 0.88 else "transpose")
 
 
 def random_cases(seed, count):
     r = random.Random(seed)
     made, size = {}, 0
     for _ in range(count):
-        kind = r.random()
-        entry, room, args = random_puzzle_case(r) if kind < 0.6 else random_grid_case(r, "read_grid" if kind < 0.85 else "transpose")
+        entry, room, args = random_case(r)
         number, _, _ = answer(entry, room, args)
         made[entry, number] = made.get((entry, number), 0) + 1
         line = f"{entry} {room}{shown(args)}"

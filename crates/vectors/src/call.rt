@@ -5,7 +5,11 @@ use crate::number::index;
 use crate::puzzle;
 use crate::show::show;
 use crate::show::show_bytes;
+use crate::show::show_literals;
+use crate::show::show_numbers;
+use haafgrim::haafgrim_clauses;
 use haafgrim::haafgrim_color_ranges;
+use haafgrim::haafgrim_counts;
 use haafgrim::haafgrim_from_two_powers;
 use haafgrim::haafgrim_read_grid;
 use haafgrim::haafgrim_read_line;
@@ -22,6 +26,8 @@ pub fn call(entry: Entry, room: u32, args: &[u32]) {
     match entry {
         Entry::Puzzle => puzzle::answer(args),
         Entry::Transpose => transpose(index(room), args, &bytes, n),
+        Entry::Clauses => clauses(index(room), args),
+        Entry::Counts => counts(index(room), args),
         _ => lend(entry, index(room), args, &bytes, n),
     }
 }
@@ -103,6 +109,32 @@ fn turn(width: usize, height: usize, grid: &[u8], out: &mut [u8], room: usize)
     let mut place = 0;
     let number = haafgrim_transpose(width, height, grid, &mut out[0..room], &mut place);
     show_bytes(number, place, &out[0..room]);
+}
+
+fn clauses(room: usize, puzzle: &[u32]) {
+    let mut out = [7i32; 25600];
+    list(puzzle, &mut out, at_most(room, 25600));
+}
+
+fn list(puzzle: &[u32], out: &mut [i32], room: usize)
+    requires { ⌜ room ≤ length (now out) ⌝ }
+{
+    let mut place = 0;
+    let number = haafgrim_clauses(puzzle, &mut out[0..room], &mut place);
+    show_literals(number, place, &out[0..room]);
+}
+
+fn counts(room: usize, puzzle: &[u32]) {
+    let mut out = [7u64; 25600];
+    count(puzzle, &mut out, at_most(room, 25600));
+}
+
+fn count(puzzle: &[u32], out: &mut [u64], room: usize)
+    requires { ⌜ room ≤ length (now out) ⌝ }
+{
+    let mut place = 0;
+    let number = haafgrim_counts(puzzle, &mut out[0..room], &mut place);
+    show_numbers(number, place, out, room);
 }
 
 fn as_bytes(words: &[u32], out: &mut [u8]) -> usize

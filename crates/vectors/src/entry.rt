@@ -7,6 +7,8 @@ pub enum Entry {
     ColorRanges,
     ReadGrid,
     Transpose,
+    Clauses,
+    Counts,
     Puzzle,
     Unknown,
 }
@@ -32,6 +34,12 @@ pub fn named(name: &[u8]) -> Entry {
     }
     if check::same(name, b"transpose") {
         return Entry::Transpose;
+    }
+    if check::same(name, b"clauses") {
+        return Entry::Clauses;
+    }
+    if check::same(name, b"counts") {
+        return Entry::Counts;
     }
     if check::same(name, b"puzzle") {
         return Entry::Puzzle;

@@ -4,10 +4,10 @@ use Rattle.vectors.proofs.show.run_end.Statement.{statement}
 use Rattle.vectors.proofs.show.run_end.Tie as tie
 
 abbrev Inv-loop : tie.InvT-loop
-Inv-loop words from n i₀ i = (from < i) × (i ≤ n)
+Inv-loop numbers from n i₀ i = (from < i) × (i ≤ n)
 
 abbrev μ-loop : tie.MeasureT-loop
-μ-loop words from n i₀ i = n - i
+μ-loop numbers from n i₀ i = n - i
 
 pub run-end-spec : {M : Type 1} → statement M
 run-end-spec =

@@ -2,21 +2,22 @@ use mathlib.Core.Path.{_≡_}
 use Prim.Native.Nat.{_-_, _≤_}
 use lib.ListN.{length, length-set}
 use borrow.Author.Needs.{needs}
-use Rattle.vectors.proofs.show.as_words.Statement.{statement}
-use Rattle.vectors.proofs.show.as_words.Tie as tie
+use Rattle.vectors.proofs.show.of_words.Statement.{statement}
+use Rattle.vectors.proofs.show.of_words.Tie as tie
 
 abbrev Inv-loop : tie.InvT-loop
-Inv-loop bytes out₀ i₀ i-end out i = (i-end ≡ length bytes) × ((i ≤ i-end) × ((i ≤ length out) × (length out ≡ length out₀)))
+Inv-loop words out₀ i₀ i-end out i = (i-end ≡ length words) × ((i ≤ i-end) × ((i ≤ length out) × (length out ≡ length out₀)))
 
 abbrev μ-loop : tie.MeasureT-loop
-μ-loop bytes out₀ i₀ i-end out i = i-end - i
+μ-loop words out₀ i₀ i-end out i = i-end - i
 
-pub as-words-spec : {M : Type 1} → statement M
-as-words-spec =
+pub of-words-spec : {M : Type 1} → statement M
+of-words-spec =
     tie.close
     (tie.spec
     Inv-loop
     μ-loop
+    (λ c. search needs)
     (λ c. search needs)
     (λ c. search needs)
     (λ c. search needs)

@@ -1,16 +1,16 @@
 use Prim.Native.Nat.{_-_, _≤_}
 use borrow.Author.Needs.{needs}
-use Rattle.vectors.proofs.show.show_words.Statement.{statement}
-use Rattle.vectors.proofs.show.show_words.Tie as tie
+use Rattle.vectors.proofs.show.show_runs.Statement.{statement}
+use Rattle.vectors.proofs.show.show_runs.Tie as tie
 
 abbrev Inv-loop : tie.InvT-loop
-Inv-loop words n from₀ from = from ≤ n
+Inv-loop numbers n from₀ from = from ≤ n
 
 abbrev μ-loop : tie.MeasureT-loop
-μ-loop words n from₀ from = n - from
+μ-loop numbers n from₀ from = n - from
 
-pub show-words-spec : {M : Type 1} → statement M
-show-words-spec =
+pub show-runs-spec : {M : Type 1} → statement M
+show-runs-spec =
     tie.close
     (tie.spec
     Inv-loop
@@ -21,13 +21,11 @@ show-words-spec =
     (λ c. search needs)
     (λ c. search needs)
     (λ c κs. search needs)
-    (λ c κs. search needs)
     (λ c. search needs)
     (λ c. search needs)
     (λ c. search needs)
     (λ c. search needs)
     (λ c. search needs)
-    (λ c κs. search needs)
     (λ c. search needs)
     (λ c κs. search needs)
     (λ c. search needs)
