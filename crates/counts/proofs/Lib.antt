@@ -8,3 +8,4 @@ pub mod UnitClauses
 pub mod Bounded
 pub mod Summing
 pub mod Countings
+pub mod Totals

@@ -1,7 +1,7 @@
 -- Family 10: per cell 1 if a solved colour, k if solved blank, else its excluded colours.
 use mathlib.Core.Path.{_≡_, refl, sym, ap, _∙_}
 use mathlib.Core.Bool.{Bool, true, false, not, cond, _&&_, _||_, true≢false, false≢true}
-use mathlib.Core.List.{[], _∷_}
+use mathlib.Core.List.{List, [], _∷_}
 use Prim.Native.Nat.{ℕ, zero, suc, _+_, _-_, _*_, _^_, _≤_, _<_}
 use native.Mathlib.Omega.{arith}
 use native.Mathlib.Numerals.{one-add}
@@ -19,11 +19,12 @@ use Rattle.literals.specs.Literals.{positive, negative}
 use Rattle.bits.specs.Bits.{bit, powers}
 use Rattle.bits.proofs.SetBits.{bit-and, bit-or, bit-power, bit-some, with-zero, with-within}
 use Rattle.bits.proofs.LowestFirst.{powers-count, same-bits}
+use Rattle.lines.specs.Clue.{Block}
 use Rattle.puzzles.specs.Puzzle.{Puzzle, width, height}
-use Rattle.puzzles.specs.Colors.{solved, offSolved}
+use Rattle.puzzles.specs.Colors.{withLines, colorSet, solved, offSolved}
 use Rattle.puzzles.specs.Checks.{colors}
 use Rattle.puzzles.specs.Good.{Good}
-use Rattle.puzzles.proofs.ColorSets.{good-known}
+use Rattle.puzzles.proofs.ColorSets.{set-none, set-some, good-known}
 use Rattle.numbering.specs.Variables.{palette, hues, hue, cellVariable}
 use Rattle.cells.specs.Cells.{precomputed, maskAt, precomputedCells}
 use Rattle.counts.specs.Formulas.{excluded, unitsBy, unitCount}
@@ -97,6 +98,34 @@ module _ (K : ℕ) (small : K < 2 ^ 32) (blank : bit K 0 ≡ false) where
       pub units-color : bit mask 0 ≡ false → 1 ≡ unitsBy K mask
       unfolding unitsBy solved
       units-color b = rw (powers-count mask fits, eq-eqb (ones mask) 1 e, b)
+
+-- ---- of a good puzzle
+
+set-nonzero : (rows : List (List Block)) → colorSet rows ≡ 0 → ⊥
+set-nonzero rows e = elim (ℕ-discrete (withLines 0 rows) 0) [
+  | yes q ↦ omega (arith, e, set-none rows q)
+  | no q ↦ q (sym (set-some rows q) ∙ e)
+]
+
+module _ (z : Puzzle) (G : Good z) where
+  pub hues-ones : hues z ≡ ones (colors z)
+  hues-ones = palette-ones (colors z) (good-known z G .small) (good-known z G .blank)
+
+  -- there is a colour
+  pub hues-some : 0 < hues z
+  hues-some = elim (ℕ-discrete (hues z) 0) [
+    | yes e ↦ absurd (set-nonzero (z .rows) (same-bits (colors z) 0 (good-known z G .small) (omega arith) (λ k h b. none e k h b) (λ k _ q. absurd (omega (arith, bit-some 0 k q)))))
+    | no e ↦ omega arith
+  ]
+    where
+      count : hues z ≡ sum 31 (λ k. cond (bit (colors z) (suc k)) 1 0)
+      count = sym (sum-constant (hues z) 1 ∙ mul-one (hues z)) ∙ over-colors (λ c. 1) (colors z)
+
+      none : hues z ≡ 0 → (k : ℕ) → k < 32 → bit (colors z) k ≡ true → bit 0 k ≡ true
+      none e zero h b = absurd (false≢true (sym (good-known z G .blank) ∙ b))
+      none e (suc k) h b =
+          let v : _≡_ {A = ℕ} (cond (bit (colors z) (suc k)) 1 0) 1 = rw b in
+          absurd (omega (arith, e, v, count, sum-at 31 (λ k. cond (bit (colors z) (suc k)) 1 0) k (omega arith)))
 
 -- ---- a cell solved with a colour of the set
 

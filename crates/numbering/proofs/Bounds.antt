@@ -75,7 +75,8 @@ module _ (z : Puzzle) (G : Good z) where
   pub cells-most : width z * height z ≤ 4096
   cells-most = omega (arith, mul-le-mul-right (height z) (G .width-most), G .height-most)
 
-  cells-first : (firstAt z (lines z) ≤ 135169) × (0 < firstAt z (lines z))
+  -- the first variable of its cells
+  pub cells-first : (firstAt z (lines z) ≤ 135169) × (0 < firstAt z (lines z))
   cells-first = (omega (arith, first-bound (lines z) (omega arith), G .width-most, G .height-most), first-some (lines z))
 
   -- the variables of its cells
