@@ -1,2 +1,3 @@
 pub mod Variables
 pub mod Tables
+pub mod Names
