@@ -13,7 +13,7 @@ use Rattle.puzzles.specs.Puzzle.{Puzzle, width, height, lines}
 use Rattle.puzzles.specs.Colors.{solved}
 use Rattle.puzzles.specs.Checks.{colors}
 use Rattle.puzzles.specs.Good.{Good}
-use Rattle.numbering.specs.Variables.{Line, many, hues, hue, palette}
+use Rattle.numbering.specs.Variables.{Line, many, hues, palette}
 use Rattle.numbering.specs.Tables.{Sound}
 use Rattle.numbering.proofs.SoundLines.{sound-shared, sound-some, sound-distance, sound-sizes}
 use Rattle.numbering.proofs.Bounds.{line-sound, hues-most, cells-most}

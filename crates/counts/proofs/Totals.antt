@@ -2,7 +2,7 @@
 use mathlib.Core.Path.{_≡_, refl, sym, ap, _∙_}
 use mathlib.Core.Bool.{false}
 use mathlib.Core.List.{List, [], _∷_}
-use Prim.Native.Nat.{ℕ, zero, suc, _+_, _-_, _*_, _/_, _≤_, _<_}
+use Prim.Native.Nat.{ℕ, _+_, _-_, _*_, _/_, _≤_, _<_}
 use native.Mathlib.Omega.{arith}
 use native.Mathlib.Nat.{zero-add, mul-le-mul-right}
 use lib.Count.{ones}
@@ -59,8 +59,20 @@ module _ (z : Puzzle) where
   literals-all e =
       let c : 1 + literals (ofColumns z Positions) ≡ firstAt z (width z) = lines-variables z 0 (width z) ∙ ap (firstAt z) (zero-add (width z)) in
       let r : firstAt z (width z) + literals (ofRows z Positions) ≡ firstAt z (lines z) = lines-variables z (width z) (height z) in
-      omega (arith, e, c, r, lines-once z 0 (width z), lines-once z (width z) (height z), lines-overlap z 0 (width z), lines-overlap z (width z) (height z),
-      color-literals z, space-twos z, point-twos z, units-ones z)
+      omega (
+        arith,
+        e,
+        c,
+        r,
+        lines-once z 0 (width z),
+        lines-once z (width z) (height z),
+        lines-overlap z 0 (width z),
+        lines-overlap z (width z) (height z),
+        color-literals z,
+        space-twos z,
+        point-twos z,
+        units-ones z,
+      )
 
   -- all words
   pub words-all : length (buffer z) ≡ 10 + (length (ofColumns z Positions) + length (ofRows z Positions) + twos + length (ofCells z Color) + length (precomputedCells z)) + literalsOf (families z)
@@ -150,6 +162,27 @@ module _ (z : Puzzle) (G : Good z) {b : Board} (S : Stands b z) where
     where
       omega-first : {n m : ℕ} → n ≡ m → (m ≤ 135169) × (0 < m) → (0 < n) × (n ≤ 135169)
       omega-first e h = (omega (arith, e, h .1), omega (arith, e, h .0))
+
+  -- the sums stay small
+  pub record SmallSums (columns rows : Side) (cells : Cells) : Type 0 where
+    pub positions : columns .positions + rows .positions ≤ 8192
+    pub twos : columns .once + rows .once + columns .overlap + rows .overlap + cells .space + cells .point ≤ 556216320
+    pub color : cells .color ≤ 253952
+    pub space : cells .space ≤ 532480
+    pub units : cells .units ≤ 126976
+
+  pub sums-small : {columns rows : Side} {cells : Cells} → SideCounted z 0 (b .width) columns → SideCounted z (b .width) (b .height) rows → CellsCounted z cells → SmallSums columns rows cells
+  sums-small C R X =
+      let C′ = rw (S .width-is) at C in
+      let R′ = rw (S .width-is, S .height-is) at R in
+      let small = counts-small z G in
+      record {
+        positions = omega (arith, C′, R′, small);
+        twos = omega (arith, C′, R′, X, small);
+        color = omega (arith, X, small);
+        space = omega (arith, X, small);
+        units = omega (arith, X, small);
+      }
 
   pub all-counted : {columns rows : Side} {cells : Cells} → SideCounted z 0 (b .width) columns → SideCounted z (b .width) (b .height) rows → CellsCounted z cells
       → let twos = columns .once + rows .once + columns .overlap + rows .overlap + cells .space + cells .point in

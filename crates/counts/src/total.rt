@@ -3,7 +3,6 @@ use crate::line::count_lines;
 use crate::measure::Measure;
 use crate::units::count_units;
 use boards::board::Board;
-ghost use mathlib.Core.Path.{_≡_};
 ghost use Prim.Native.Nat.{_+_, _≤_};
 ghost use Rattle.puzzles.specs.Puzzle as P;
 ghost use Rattle.puzzles.specs.Checks.{puzzle};
@@ -75,7 +74,12 @@ pub fn count_all(words: &[u32], table: &[u32], board: Board) -> Counts
     let rows = count_side(words, table, board.width, board.height);
     let cells = count_cells(words, table, board);
     let positions = board.first - 1;
-    let twos = columns.once + rows.once + columns.overlap + rows.overlap + cells.space + cells.point;
+    let twos = columns.once
+        + rows.once
+        + columns.overlap
+        + rows.overlap
+        + cells.space
+        + cells.point;
     let literals = positions + 2 * twos + cells.color + cells.space + cells.units;
     let clauses = columns.positions + rows.positions + twos + cells.color + cells.units;
     Counts {
