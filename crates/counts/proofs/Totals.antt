@@ -24,11 +24,12 @@ use Rattle.placement.specs.declared.rule.Rule.{Rule}
 use Rattle.placement.specs.declared.rule.Rule.the-variants.{Positions, Once, Overlap}
 use Rattle.cells.specs.Cells.{ofCells, pointOnce, precomputedCells}
 use Rattle.cells.specs.declared.rule.Rule.the-variants.{Color, Space}
-use Rattle.counts.specs.Families.{families, buffer, literalsOf}
+use Rattle.counts.specs.Families.{families, buffer, literalsOf, countsOf}
 use Rattle.counts.specs.Formulas.{overLines, unitsBy}
-use Rattle.counts.specs.Counted.{SideCounted, CellsCounted, Counted}
+use Rattle.counts.specs.Counted.{SideCounted, CellsCounted, Counted, numbers}
 use Rattle.counts.specs.declared.total.Side.{Side}
 use Rattle.counts.specs.declared.total.Cells.{Cells}
+use Rattle.counts.specs.declared.total.Counts.{Counts}
 use Rattle.counts.specs.declared.measure.Measure.the-variants as M
 use Rattle.counts.proofs.Placed.{measure, lines-length, lines-once, lines-overlap, lines-variables}
 use Rattle.counts.proofs.Covered.{cells-space}
@@ -207,3 +208,27 @@ module _ (z : Puzzle) (G : Good z) {b : Board} (S : Stands b z) where
         literals-is = omega (arith, literals-all z (S .first-is), C′, R′, X);
         words-is = omega (arith, words-all z, literals-all z (S .first-is), C′, R′, X);
       }
+
+-- the numbers that are written
+pub numbers-are : (z : Puzzle) {c : Counts} → Counted z c → numbers c ≡ countsOf z
+unfolding countsOf families
+numbers-are z C =
+    rw (
+      C .variables-is,
+      C .columns-are .positions-is,
+      C .rows-are .positions-is,
+      C .columns-are .once-is,
+      C .rows-are .once-is,
+      C .columns-are .overlap-is,
+      C .rows-are .overlap-is,
+      C .cells-are .color-is,
+      C .cells-are .space-is,
+      C .cells-are .point-is,
+      C .cells-are .units-is,
+      C .literals-is,
+      C .words-is,
+    )
+
+pub counts-length : (z : Puzzle) → length (countsOf z) ≡ 13
+unfolding countsOf families
+counts-length z = refl

@@ -1,5 +1,6 @@
 -- The counts that the code keeps: each is the length of a list that document 01 defines.
 use mathlib.Core.Path.{_≡_}
+use mathlib.Core.List.{List, [], _∷_}
 use Prim.Native.Nat.{ℕ}
 use lib.ListN.{length}
 use Rattle.puzzles.specs.Puzzle.{Puzzle, width, height}
@@ -31,3 +32,13 @@ pub record Counted (z : Puzzle) (c : Counts) : Type 0 where
   pub cells-are : CellsCounted z (c .cells)
   pub literals-is : c .literals ≡ literalsOf (families z)
   pub words-is : c .words ≡ length (buffer z)
+
+-- as the call `counts` writes them
+abbrev pub numbers : Counts → List ℕ
+numbers c =
+    c .variables
+    ∷ c .columns .positions ∷ c .rows .positions
+    ∷ c .columns .once ∷ c .rows .once
+    ∷ c .columns .overlap ∷ c .rows .overlap
+    ∷ c .cells .color ∷ c .cells .space ∷ c .cells .point ∷ c .cells .units
+    ∷ c .literals ∷ c .words ∷ []

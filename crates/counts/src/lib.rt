@@ -1,4 +1,5 @@
 // How many clauses, literals and words the ten families of a puzzle have, from its lines and masks alone.
+pub mod call;
 pub mod line;
 pub mod measure;
 pub mod total;
