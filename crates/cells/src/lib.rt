@@ -1,2 +1,4 @@
 // Families 7 to 10: the colours of cells.
+mod covering;
 pub mod rule;
+mod support;
