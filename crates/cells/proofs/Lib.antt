@@ -1,5 +1,5 @@
+pub mod Asking
 pub mod BlockPositions
-pub mod Later
 pub mod LinePositions
 pub mod LongestClause
 pub mod Ruling

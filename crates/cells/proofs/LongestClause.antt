@@ -8,24 +8,18 @@ use native.Mathlib.Decide.{decLt}
 use lib.Dec.{eqb}
 use lib.ListN.{length, getD, length-append, length-map, List·getD-append, List·getD-map}
 use lib.Seq.{getD-append-add}
-use Rattle.lists.specs.Each.{each, when, sum}
+use Rattle.lists.specs.Each.{each, when}
+use Rattle.lists.proofs.Sums.{sum-below, length-each}
 use Rattle.literals.specs.Literals.{IsVariable, largest, positive, negative}
 use Rattle.lines.specs.Arrangement.{at}
 use Rattle.numbering.specs.Variables.{Line, many, firstOf}
 use Rattle.numbering.specs.Tables.{Sound}
+use Rattle.numbering.proofs.SoundLines.{sound-sizes, sound-least, sound-most}
 use Rattle.cells.specs.declared.rule.Rule.{Rule}
 use Rattle.cells.specs.declared.rule.Rule.the-variants.{Color, Space}
 use Rattle.cells.specs.Cells.{covering, ruled}
 use Rattle.cells.specs.Found.{coveringBlock, AreVariables}
 use Rattle.cells.proofs.BlockPositions.{reaching, block-most}
-use Rattle.cells.proofs.Later.{first-some, first-most, sizes-most}
-
--- ---- at most 64
-
-each-sum-most : {A : Type 0} (n : ℕ) (f : ℕ → List A) (g : ℕ → ℕ) → ((k : ℕ) → k < n → length (f k) ≤ g k) → length (each n f) ≤ sum n g
-unfolding each sum
-each-sum-most zero f g h = omega arith
-each-sum-most (suc n) f g h = omega (arith, length-append (each n f) (f n), h n (omega arith), each-sum-most n f g (λ k l. h k (omega arith)))
 
 -- ---- they are variables
 
@@ -72,12 +66,14 @@ when-most false l n h = omega arith
 module _ {L : Line} (S : Sound L) (c t : ℕ) where
   pub covering-most : length (covering L c t) ≤ 64
   covering-most =
-      let m = each-sum-most (many L) (ofBlock L c t) (λ b. at (L .runs) b .size) (λ b h. when-most (eqb (at (L .runs) b .color) c) _ _ (block-most (firstOf L b) (at (L .runs) b .start) (at (L .runs) b .size) t (L .positions))) in
-      omega (arith, m, ap length (covering-blocks L c t), sizes-most S)
+      omega (arith, ap length (covering-blocks L c t), length-each (many L) (ofBlock L c t), sum-below (many L) (λ b. length (ofBlock L c t b)) (λ b. at (L .runs) b .size) few, sound-sizes S)
+    where
+      few : (b : ℕ) → b < many L → length (ofBlock L c t b) ≤ at (L .runs) b .size
+      few b h = when-most (eqb (at (L .runs) b .color) c) _ _ (block-most (firstOf L b) (at (L .runs) b .start) (at (L .runs) b .size) t (L .positions))
 
   pub covering-variables : AreVariables (covering L c t)
   covering-variables =
-      rw (covering-blocks L c t) (variables-each (many L) (ofBlock L c t) (λ b h. variables-when (eqb (at (L .runs) b .color) c) _ (block-variables (firstOf L b) (L .positions) (at (L .runs) b .start) (at (L .runs) b .size) t (first-some S b h) (omega (arith, first-most S b h)))))
+      rw (covering-blocks L c t) (variables-each (many L) (ofBlock L c t) (λ b h. variables-when (eqb (at (L .runs) b .color) c) _ (block-variables (firstOf L b) (L .positions) (at (L .runs) b .start) (at (L .runs) b .size) t (sound-least S b h) (omega (arith, sound-most S b h)))))
 
 -- ---- the longest clause
 

@@ -1,4 +1,4 @@
-use Rattle.cells.proofs.Later.{many-most, line-many}
+use Rattle.numbering.proofs.SoundLines.{sound-some, sound-shared, of-many}
 use mathlib.Core.Path.{_≡_, refl}
 use native.Mathlib.Omega.{arith}
 use Prim.Native.Nat.{_-_, _/_}
@@ -62,7 +62,7 @@ mul-wide : tie.Need-mul-wide Inv-loop μ-loop
 mul-wide c = search needs
 
 shared-slice-read-wide-3 : tie.Need-shared-slice-read-wide-3 Inv-loop μ-loop
-shared-slice-read-wide-3 c = omega (arith, many-most (c .before .before .before .before .before .before .before .before .before .before .before .before .pre .0), line-many (c .before .before .before .before .before .before .before .before .before .before .before .before .args .line .now) (c .before .before .before .before .before .before .before .before .before .before .before .before .args .clue .now))
+shared-slice-read-wide-3 c = omega (arith, sound-some (c .before .before .before .before .before .before .before .before .before .before .before .before .pre .0), sound-shared (c .before .before .before .before .before .before .before .before .before .before .before .before .pre .0), of-many (c .before .before .before .before .before .before .before .before .before .before .before .before .args .line .now) (c .before .before .before .before .before .before .before .before .before .before .before .before .args .clue .now))
 
 wide-requires-3 : tie.Need-wide-requires-3 Inv-loop μ-loop
 wide-requires-3 c κs = search needs

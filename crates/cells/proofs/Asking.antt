@@ -1,0 +1,62 @@
+-- A line that is asked: its parts, and what was found in it.
+use mathlib.Core.Path.{_≡_, sym, ap, _∙_}
+use mathlib.Core.List.{List, _++_}
+use Prim.Native.Nat.{ℕ, _+_, _-_, _*_, _≤_, _<_}
+use native.Mathlib.Omega.{arith}
+use lib.ListN.{length, take, drop, getD, length-append, length-take, length-drop}
+use lib.IntN.{ℤ}
+use Rattle.lists.specs.Wrote.{Wrote}
+use Rattle.lists.proofs.Writing.{wrote-there, wrote-kept, wrote-then}
+use Rattle.literals.specs.Literals.{IsVariable}
+use Rattle.sections.specs.Sections.{Clause, clausesWords}
+use Rattle.sections.proofs.ClauseLists.{clauses-append}
+use Rattle.puzzles.specs.Puzzle.{lines}
+use Rattle.puzzles.specs.Checks.{puzzle}
+use Rattle.numbering.specs.Variables.{lineAt}
+use Rattle.numbering.specs.Tables.{Ready, lineOf, Sound}
+use Rattle.numbering.proofs.Parts.{ready-sound, ready-low, ready-line}
+use Rattle.cells.specs.declared.rule.Rule.{Rule}
+use Rattle.cells.specs.Cells.{covering, ruled}
+use Rattle.cells.specs.Found.{AreVariables}
+use Rattle.cells.proofs.LongestClause.{covering-most, covering-variables}
+
+-- line l, by its parts
+module _ (ws table : List ℕ) (R : Ready ws table) (l : ℕ) (h : l < lines (puzzle ws)) {from end : ℕ} (e : from ≡ getD table (68 * l) 0) (q : end ≡ from + 1 + 2 * getD ws from 0) where
+  S : Sound (lineAt (puzzle ws) l)
+  S = ready-sound ws table R l h
+
+  pub part-sound : Sound (lineOf (take (68 * l + 68 - 68 * l) (drop (68 * l) table)) (take (end - (from + 1)) (drop (from + 1) ws)))
+  part-sound = rw (ready-line ws table R l h e q) S
+
+  pub part-long : 68 ≤ length (take (68 * l + 68 - 68 * l) (drop (68 * l) table))
+  part-long = rw (length-take, length-drop) (omega (arith, ready-low ws table R l h, R .long))
+
+  -- what stands at the front of the places for what is found
+  module _ (c t : ℕ) {found found′ : List ℕ} {n : ℕ} (w : Wrote (covering (lineOf (take (68 * l + 68 - 68 * l) (drop (68 * l) table)) (take (end - (from + 1)) (drop (from + 1) ws))) c t) found 0 found′ n) where
+    found-in : Wrote (covering (lineAt (puzzle ws) l) c t) found 0 found′ n
+    found-in = rw (ready-line ws table R l h e q) at w
+
+    pub front-few : n ≤ 64
+    front-few = omega (arith, found-in .next-is, covering-most S c t)
+
+    front-is : take n found′ ≡ covering (lineAt (puzzle ws) l) c t
+    front-is = let e : n ≡ length (covering (lineAt (puzzle ws) l) c t) = omega (arith, found-in .next-is) in rw e (wrote-there (omega arith) found-in)
+
+    pub front-asked : (rule : Rule) (v at : ℕ) (out : List ℤ) → IsVariable v → at + length (clausesWords (ruled rule v (covering (lineAt (puzzle ws) l) c t))) ≤ length out
+        → (AreVariables (take n found′) × IsVariable v) × ((length (take n found′) ≤ 64) × (at + length (clausesWords (ruled rule v (take n found′))) ≤ length out))
+    front-asked rule v at out a r = rw front-is ((covering-variables S c t, a), (covering-most S c t, r))
+
+    pub front-wrote : (rule : Rule) (v : ℕ) {at to : ℕ} {out out′ : List ℤ} → Wrote (clausesWords (ruled rule v (take n found′))) out at out′ to → Wrote (clausesWords (ruled rule v (covering (lineAt (puzzle ws) l) c t))) out at out′ to
+    front-wrote rule v u = rw front-is at u
+
+-- two lists of clauses, one after the other
+module _ (cs ds : List Clause) (out : List ℤ) (at : ℕ) (h : at + length (clausesWords (cs ++ ds)) ≤ length out) where
+  pub both-first : at + length (clausesWords cs) ≤ length out
+  both-first = omega (arith, ap length (clauses-append cs ds), length-append (clausesWords cs) (clausesWords ds))
+
+  module _ {out₁ : List ℤ} {to : ℕ} (w : Wrote (clausesWords cs) out at out₁ to) where
+    pub both-second : to + length (clausesWords ds) ≤ length out₁
+    both-second = omega (arith, ap length (clauses-append cs ds), length-append (clausesWords cs) (clausesWords ds), wrote-kept both-first w, w .next-is)
+
+    pub both-wrote : {out₂ : List ℤ} {to₂ : ℕ} → Wrote (clausesWords ds) out₁ to out₂ to₂ → Wrote (clausesWords (cs ++ ds)) out at out₂ to₂
+    both-wrote u = rw (clauses-append cs ds) (wrote-then (omega arith) w u)
