@@ -1,5 +1,6 @@
 pub mod Asking
 pub mod BlockPositions
+pub mod ByColumn
 pub mod LinePositions
 pub mod LongestClause
 pub mod Ruling

@@ -15,12 +15,11 @@ ghost use Rattle.lists.specs.Wrote.{Wrote};
 ghost use Rattle.literals.specs.Literals.{IsVariable};
 ghost use Rattle.sections.specs.Sections.{clausesWords, sectionWords};
 ghost use Rattle.puzzles.specs.Puzzle as P;
-ghost use Rattle.puzzles.specs.Checks.{puzzle, colors};
-ghost use Rattle.boards.specs.Reading.{Stands};
-ghost use Rattle.numbering.specs.Variables as N;
+ghost use Rattle.puzzles.specs.Checks.{puzzle};
 ghost use Rattle.numbering.specs.Tables.{Ready};
-ghost use Rattle.cells.specs.Cells.{ofColor, ofCells};
+ghost use Rattle.cells.specs.Cells.{ofCells};
 ghost use Rattle.cells.specs.Asked.{asked};
+ghost use Rattle.cells.specs.Given.{Given, ofCell};
 
 // What is asked of a line: the rule, the colour, and the variable of the cell's colour.
 struct Ask {
@@ -77,4 +76,84 @@ fn color_clauses(
 {
     let to = cover_line(words, table, x, y, ask, found, out, at);
     cover_line(words, table, width + y, x, ask, found, out, to)
+}
+
+fn cell_color_clauses(
+    rule: Rule,
+    words: &[u32],
+    table: &[u32],
+    board: Board,
+    palette: &[u32],
+    x: usize,
+    y: usize,
+    found: &mut [usize; 64],
+    out: &mut [i32],
+    at: usize,
+) -> usize
+    requires { ⌜ Given (now words) (now table) board (now palette) ⌝ }
+    requires { ⌜ (x < board .width) × (y < board .height) ⌝ }
+    requires { ⌜ at + length (clausesWords (ofCell (puzzle (now words)) rule x y)) ≤ length (now out) ⌝ }
+    ensures { λ r. ⌜ Wrote (clausesWords (ofCell (puzzle (now (words .entry))) rule x y)) (now (out .entry)) at (now (out .exit)) r ⌝ }
+{
+    let width = board.width;
+    let first = board.first + (y * width + x) * palette.len();
+    let mut to = at;
+    for r in 0..palette.len() {
+        let color = palette[r];
+        let ask = Ask {
+            rule,
+            color,
+            v: first + r,
+        };
+        to = color_clauses(words, table, width, x, y, ask, found, out, to);
+    }
+    to
+}
+
+// Of column x.
+fn column_clauses(
+    rule: Rule,
+    words: &[u32],
+    table: &[u32],
+    board: Board,
+    palette: &[u32],
+    x: usize,
+    found: &mut [usize; 64],
+    out: &mut [i32],
+    at: usize,
+) -> usize
+    requires { ⌜ Given (now words) (now table) board (now palette) ⌝ }
+    requires { ⌜ x < board .width ⌝ }
+    requires { ⌜ at + length (clausesWords (each (board .height) (ofCell (puzzle (now words)) rule x))) ≤ length (now out) ⌝ }
+    ensures { λ r. ⌜ Wrote (clausesWords (each (board .height) (ofCell (puzzle (now (words .entry))) rule x))) (now (out .entry)) at (now (out .exit)) r ⌝ }
+{
+    let mut to = at;
+    for y in 0..board.height {
+        to = cell_color_clauses(rule, words, table, board, palette, x, y, found, out, to);
+    }
+    to
+}
+
+// The section, after the number of its clauses.
+pub fn write_cells(
+    rule: Rule,
+    words: &[u32],
+    table: &[u32],
+    board: Board,
+    palette: &[u32],
+    count: usize,
+    out: &mut [i32],
+) -> usize
+    requires { ⌜ Given (now words) (now table) board (now palette) ⌝ }
+    requires { ⌜ (count ≡ length (ofCells (puzzle (now words)) rule)) × (count < 2147483648) ⌝ }
+    requires { ⌜ length (sectionWords (ofCells (puzzle (now words)) rule)) ≤ length (now out) ⌝ }
+    ensures { λ r. ⌜ Wrote (sectionWords (ofCells (puzzle (now (words .entry))) rule)) (now (out .entry)) 0 (now (out .exit)) r ⌝ }
+{
+    out[0] = number(count);
+    let mut found = [0usize; 64];
+    let mut to = 1;
+    for x in 0..board.width {
+        to = column_clauses(rule, words, table, board, palette, x, &mut found, out, to);
+    }
+    to
 }
