@@ -19,7 +19,7 @@ use Rattle.boards.specs.declared.board.Board.{Board}
 use Rattle.numbering.specs.Variables.{lineAt, hues, cellFirst}
 use Rattle.numbering.proofs.Bounds.{cell-least, cell-most, cells-most}
 use Rattle.cells.specs.declared.rule.Rule.{Rule}
-use Rattle.cells.specs.Cells.{covering, ruled, ofColor}
+use Rattle.cells.specs.Cells.{covering, ruled, ofColor, byColumn, ofCells}
 use Rattle.cells.specs.Given.{Given, ofCell}
 
 module _ {ws table : List ℕ} {board : Board} {palette : List ℕ} (G : Given ws table board palette) where
@@ -71,3 +71,8 @@ module _ {ws table : List ℕ} {board : Board} {palette : List ℕ} (G : Given w
     pub color-done : (rule : Rule) {out₀ out : List ℤ} {at₀ at r : ℕ} → Emitting (hues (puzzle ws)) (λ k. clausesWords (ofColor (puzzle ws) rule x y k)) out₀ at₀ out at r → length palette ≤ r
         → Wrote (clausesWords (ofCell (puzzle ws) rule x y)) out₀ at₀ out at
     color-done rule E n = say-done (hues (puzzle ws)) (ofColor (puzzle ws) rule x y) E (omega (arith, hues-are))
+
+  -- the section
+  pub columns-are : (rule : Rule) → ofCells (puzzle ws) rule ≡ each (board .width) (λ x. each (board .height) (ofCell (puzzle ws) rule x))
+  unfolding byColumn
+  columns-are rule = rw (G .stands .width-is, G .stands .height-is)

@@ -1,6 +1,7 @@
 pub mod Asking
 pub mod BlockPositions
 pub mod ByColumn
+pub mod Counted
 pub mod LinePositions
 pub mod LongestClause
 pub mod Ruling
