@@ -1,0 +1,1 @@
+-- The cells of families 9 and 10 in their order, by the numbers of the board.
