@@ -1,3 +1,4 @@
+use Rattle.cells.specs.Cells.{ofCells}
 use Rattle.cells.proofs.Counted.{count-room, count-first, count-kept, count-done}
 use mathlib.Core.Path.{_≡_, refl, ap, _∙_}
 use native.Mathlib.Omega.{arith}
@@ -29,7 +30,7 @@ number-requires : tie.Need-number-requires Inv-loop μ-loop
 number-requires c κs = c .before .before .before .pre .1 .0 .1
 
 slice-set-from-out : tie.Need-slice-set-from-out Inv-loop μ-loop
-slice-set-from-out c = count-room (c .before .before .before .before .args .board .width) (λ k. each (c .before .before .before .before .args .board .height) (ofCell (puzzle (c .before .before .before .before .args .words .now)) (c .before .before .before .before .args .rule) k)) (columns-are (c .before .before .before .before .pre .0) (c .before .before .before .before .args .rule)) (c .before .before .before .before .args .out .now) (c .before .before .before .before .pre .1 .1)
+slice-set-from-out c = count-room (ofCells (puzzle (c .before .before .before .before .args .words .now)) (c .before .before .before .before .args .rule)) (c .before .before .before .before .args .out .now) (c .before .before .before .before .pre .1 .1)
 
 loop-holds : tie.Need-loop-holds Inv-loop μ-loop
 loop-holds c = (refl, count-first (c .before .before .before .before .args .board .width) (λ k. each (c .before .before .before .before .args .board .height) (ofCell (puzzle (c .before .before .before .before .args .words .now)) (c .before .before .before .before .args .rule) k)) (columns-are (c .before .before .before .before .pre .0) (c .before .before .before .before .args .rule)) (c .before .before .before .before .args .out .now) (c .before .before .before .before .pre .1 .1) _)

@@ -1,3 +1,4 @@
+use Rattle.points.proofs.PointCells.{mask-first, mask-done}
 use mathlib.Core.Path.{_≡_, refl}
 use native.Mathlib.Omega.{arith}
 use Prim.Native.Nat.{_+_, _-_}
@@ -19,7 +20,7 @@ abbrev μ-loop : tie.MeasureT-loop
 μ-loop mask palette v out₀ at to₀ r₀ r-end out to r = length palette - r
 
 loop-holds : tie.Need-loop-holds Inv-loop μ-loop
-loop-holds c = search needs
+loop-holds c = (refl, mask-first _ _ _ _ _ (c .before .pre .1))
 
 mul-precomputed-color : tie.Need-mul-precomputed-color Inv-loop μ-loop
 mul-precomputed-color c = search needs
@@ -31,7 +32,7 @@ add-precomputed-color : tie.Need-add-precomputed-color Inv-loop μ-loop
 add-precomputed-color c = search needs
 
 precomputed-color-requires : tie.Need-precomputed-color-requires Inv-loop μ-loop
-precomputed-color-requires c κs = search needs
+precomputed-color-requires c κs = (record { least = omega arith; most = omega arith }, emit-room (c .before .before .before .loop .inv .1) (omega arith))
 
 add-r : tie.Need-add-r Inv-loop μ-loop
 add-r c = search needs
@@ -40,13 +41,13 @@ loop-less : tie.Need-loop-less Inv-loop μ-loop
 loop-less c = search needs
 
 loop-again : tie.Need-loop-again Inv-loop μ-loop
-loop-again c = search needs
+loop-again c = (c .before .before .before .before .before .loop .inv .0, emit-next (c .before .before .before .before .before .loop .inv .1) (omega arith) (c .before .precomputed-color .ensures))
 
 same-length : tie.Need-same-length Inv-loop μ-loop
-same-length c = search needs
+same-length c = emit-kept (c .before .loop .inv .1)
 
 returns : tie.Need-returns Inv-loop μ-loop
-returns c = search needs
+returns c = mask-done (c .before .before .before .args .palette .now) (c .before .before .before .args .mask) (c .before .before .before .args .v) (c .before .loop .inv .1) (omega arith)
 
 pub precomputed-cell-spec : {M : Type 1} → statement M
 precomputed-cell-spec =
