@@ -5,6 +5,7 @@ use Prim.Native.Nat.{ℕ, _+_, _-_, _*_, _≤_, _<_}
 use native.Mathlib.Omega.{arith}
 use lib.ListN.{length, take, drop, getD, length-append, length-take, length-drop}
 use lib.IntN.{ℤ}
+use lib.Seq.{length-take-le}
 use Rattle.lists.specs.Wrote.{Wrote}
 use Rattle.lists.proofs.Writing.{wrote-there, wrote-kept, wrote-then}
 use Rattle.literals.specs.Literals.{IsVariable}
@@ -14,30 +15,49 @@ use Rattle.puzzles.specs.Puzzle.{lines}
 use Rattle.puzzles.specs.Checks.{puzzle}
 use Rattle.numbering.specs.Variables.{lineAt}
 use Rattle.numbering.specs.Tables.{Ready, lineOf, Sound}
-use Rattle.numbering.proofs.Parts.{ready-sound, ready-low, ready-line}
+use Rattle.numbering.proofs.Parts.{ready-sound, ready-low, ready-within, ready-line}
 use Rattle.cells.specs.declared.rule.Rule.{Rule}
 use Rattle.cells.specs.Cells.{covering, ruled}
 use Rattle.cells.specs.Found.{AreVariables}
 use Rattle.cells.proofs.LongestClause.{covering-most, covering-variables}
 
--- line l, by its parts
-module _ (ws table : List ℕ) (R : Ready ws table) (l : ℕ) (h : l < lines (puzzle ws)) {from end : ℕ} (e : from ≡ getD table (68 * l) 0) (q : end ≡ from + 1 + 2 * getD ws from 0) where
+-- the clue of line l stands in the words from `from` up to `end`
+pub record Located (ws table : List ℕ) (l from end : ℕ) : Type 0 where
+  pub ready : Ready ws table
+  pub below : l < lines (puzzle ws)
+  pub from-is : from ≡ getD table (68 * l) 0
+  pub end-is : end ≡ from + 1 + 2 * getD ws from 0
+
+-- the line's part of the table and its clue
+module _ {ws table : List ℕ} {l from end : ℕ} (A : Located ws table l from end) where
+  pub clue-within : end ≤ length ws
+  clue-within = omega (arith, ready-within ws table (A .ready) l (A .below) (A .from-is), A .end-is)
+
   S : Sound (lineAt (puzzle ws) l)
-  S = ready-sound ws table R l h
+  S = ready-sound ws table (A .ready) l (A .below)
+
+  line-is : lineOf (take (68 * l + 68 - 68 * l) (drop (68 * l) table)) (take (end - (from + 1)) (drop (from + 1) ws)) ≡ lineAt (puzzle ws) l
+  line-is = ready-line ws table (A .ready) l (A .below) (A .from-is) (A .end-is)
 
   pub part-sound : Sound (lineOf (take (68 * l + 68 - 68 * l) (drop (68 * l) table)) (take (end - (from + 1)) (drop (from + 1) ws)))
-  part-sound = rw (ready-line ws table R l h e q) S
+  part-sound = rw line-is S
 
   pub part-long : 68 ≤ length (take (68 * l + 68 - 68 * l) (drop (68 * l) table))
-  part-long = rw (length-take, length-drop) (omega (arith, ready-low ws table R l h, R .long))
+  part-long = rw (length-take, length-drop) (omega (arith, ready-low ws table (A .ready) l (A .below), A .ready .long))
 
-  -- what stands at the front of the places for what is found
+  -- what stands in front of the places for what is found
   module _ (c t : ℕ) {found found′ : List ℕ} {n : ℕ} (w : Wrote (covering (lineOf (take (68 * l + 68 - 68 * l) (drop (68 * l) table)) (take (end - (from + 1)) (drop (from + 1) ws))) c t) found 0 found′ n) where
     found-in : Wrote (covering (lineAt (puzzle ws) l) c t) found 0 found′ n
-    found-in = rw (ready-line ws table R l h e q) at w
+    found-in = rw line-is at w
 
-    pub front-few : n ≤ 64
+    front-few : n ≤ 64
     front-few = omega (arith, found-in .next-is, covering-most S c t)
+
+    pub front-within : 64 ≤ length found → length found′ ≡ length found → n ≤ length found′
+    front-within h e = omega (arith, front-few)
+
+    pub front-length : 64 ≤ length found → length found′ ≡ length found → n ≡ length (take n found′)
+    front-length h e = sym (length-take-le n found′ (front-within h e))
 
     front-is : take n found′ ≡ covering (lineAt (puzzle ws) l) c t
     front-is = let e : n ≡ length (covering (lineAt (puzzle ws) l) c t) = omega (arith, found-in .next-is) in rw e (wrote-there (omega arith) found-in)

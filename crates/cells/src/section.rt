@@ -44,10 +44,11 @@ fn cover_line(
     requires { ⌜ at + length (clausesWords (asked (puzzle (now words)) ask l t)) ≤ length (now out) ⌝ }
     ensures { λ r. ⌜ Wrote (clausesWords (asked (puzzle (now (words .entry))) ask l t)) (now (out .entry)) at (now (out .exit)) r ⌝ }
 {
-    let begin = wide(table[68 * l]);
+    let place = 68 * l;
+    let begin = wide(table[place]);
     let end = clue_end(words, begin);
     let n = covering_positions(
-        &table[68 * l..68 * l + 68],
+        &table[place..place + 68],
         &words[begin + 1..end],
         ask.color,
         t,

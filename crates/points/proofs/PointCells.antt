@@ -15,18 +15,16 @@ use Rattle.literals.specs.Literals.{IsVariable, largest}
 use Rattle.sections.specs.Sections.{Clause, clausesWords, atMostOne}
 use Rattle.sections.proofs.ClauseLists.{say-first, say-done}
 use Rattle.puzzles.specs.Puzzle.{Puzzle, width, height, lines}
-use Rattle.puzzles.specs.Checks.{puzzle, colors}
-use Rattle.puzzles.specs.Good.{Good}
+use Rattle.puzzles.specs.Checks.{puzzle}
 use Rattle.boards.specs.Table.{firstAt}
-use Rattle.boards.specs.Reading.{Stands}
+use Rattle.boards.proofs.Boards.{masks-within, masks-part}
 use Rattle.boards.specs.declared.board.Board.{Board}
-use Rattle.numbering.specs.Variables as N
 use Rattle.numbering.specs.Variables.{hues, hue, cellFirst, variables}
 use Rattle.numbering.proofs.Bounds.{cell-least, variables-most}
 use Rattle.cells.specs.Cells.{byColumn, pointOnce, precomputed, precomputedCells}
 use Rattle.cells.specs.Given.{Shows}
 use Rattle.cells.proofs.BoardCells.{cellAt, cell-is}
-use Rattle.points.specs.Points.{columnOnce, ofMask, ofMasks}
+use Rattle.points.specs.Points.{Masked, columnOnce, ofMask, ofMasks}
 
 -- ---- 9
 
@@ -73,14 +71,23 @@ unfolding each
 each-rows zero m f = rw (zero-mul m)
 each-rows (suc n) m f = rw (suc-mul n m, each-plus (n * m) m f, each-rows n m f)
 
-module _ {board : Board} {z : Puzzle} (G : Good z) (S : Stands board z) {palette masks : List ℕ} (e : palette ≡ N.palette (colors z)) (q : masks ≡ z .masks) where
-  pub rows-are : precomputedCells z ≡ ofMasks palette masks (board .first)
+module _ {ws : List ℕ} {board : Board} {palette : List ℕ} (M : Masked ws board palette) where
+  pub cells-within : board .cells < length ws
+  cells-within = masks-within ws (M .sectioned) (M .stands .cells-is)
+
+  masks-are : take (length ws - (board .cells + 1)) (drop (board .cells + 1) ws) ≡ puzzle ws .masks
+  masks-are = masks-part ws (M .sectioned) (M .stands .cells-is)
+
+  pub rows-are : precomputedCells (puzzle ws) ≡ ofMasks palette (take (length ws - (board .cells + 1)) (drop (board .cells + 1) ws)) (board .first)
   unfolding precomputedCells ofMasks ofMask cellFirst
-  rows-are = rw (q, G .area, mul-comm (width z) (height z), e, S .first-is)
+  rows-are =
+      let z = puzzle ws in
+      rw (masks-are, M .good .area, mul-comm (width z) (height z), M .palette-is, M .stands .first-is)
       (each-rows (height z) (width z) (λ i. each (hues z) (λ r. precomputed (getD (z .masks) i 0) (hue z r) (firstAt z (lines z) + i * hues z + r))))
 
-  pub masks-variables : (0 < board .first) × (board .first + length masks * length palette ≤ largest + 1)
+  pub masks-variables : (0 < board .first) × (board .first + length (take (length ws - (board .cells + 1)) (drop (board .cells + 1) ws)) * length palette ≤ largest + 1)
   unfolding variables cellFirst
   masks-variables =
-      let some = rw (zero-mul, add-zero, zero-mul, add-zero) at (cell-least z G 0 0 (G .width-some) (G .height-some)) in
-      rw (S .first-is, q, G .area, e) (some, omega (arith, some, variables-most z G))
+      let z = puzzle ws in
+      let some = rw (zero-mul, add-zero, zero-mul, add-zero) at (cell-least z (M .good) 0 0 (M .good .width-some) (M .good .height-some)) in
+      rw (M .stands .first-is, masks-are, M .good .area, M .palette-is) (some, omega (arith, some, variables-most z (M .good)))

@@ -5,12 +5,19 @@ use Prim.Native.Nat.{ℕ, _+_, _*_}
 use lib.ListN.{length, getD}
 use Rattle.lists.specs.Each.{each}
 use Rattle.sections.specs.Sections.{Clause, atMostOne}
-use Rattle.puzzles.specs.Puzzle.{Puzzle}
+use Rattle.puzzles.specs.Checks.{puzzle, colors, Sectioned}
 use Rattle.puzzles.specs.Good.{Good}
 use Rattle.boards.specs.Reading.{Stands}
 use Rattle.boards.specs.declared.board.Board.{Board}
-use Rattle.numbering.specs.Variables.{hues}
+use Rattle.numbering.specs.Variables as N
 use Rattle.cells.specs.Cells.{precomputed}
+
+-- accepted words, their board and their colours in order
+pub record Masked (ws : List ℕ) (board : Board) (palette : List ℕ) : Type 0 where
+  pub sectioned : Sectioned ws
+  pub good : Good (puzzle ws)
+  pub stands : Stands board (puzzle ws)
+  pub palette-is : palette ≡ N.palette (colors (puzzle ws))
 
 -- 9, of column x
 unfoldable pub columnOnce : Board → ℕ → ℕ → List Clause

@@ -11,12 +11,9 @@ ghost use lib.ListN.{length};
 ghost use Rattle.lists.specs.Wrote.{Wrote};
 ghost use Rattle.literals.specs.Literals.{IsVariable, largest};
 ghost use Rattle.sections.specs.Sections.{clauseWords, clausesWords, sectionWords};
-ghost use Rattle.puzzles.specs.Checks.{puzzle, colors, Sectioned};
-ghost use Rattle.puzzles.specs.Good.{Good};
-ghost use Rattle.boards.specs.Reading.{Stands};
-ghost use Rattle.numbering.specs.Variables as N;
+ghost use Rattle.puzzles.specs.Checks.{puzzle};
 ghost use Rattle.cells.specs.Cells.{precomputed, precomputedCells};
-ghost use Rattle.points.specs.Points.{ofMask, ofMasks};
+ghost use Rattle.points.specs.Points.{ofMask, ofMasks, Masked};
 
 // The clause of one literal.
 fn put_one(a: i32, out: &mut [i32], at: usize) -> usize
@@ -91,7 +88,7 @@ pub fn write_precomputed(
     count: usize,
     out: &mut [i32],
 ) -> usize
-    requires { ⌜ Sectioned (now words) × Good (puzzle (now words)) × Stands board (puzzle (now words)) × (now palette ≡ N.palette (colors (puzzle (now words)))) ⌝ }
+    requires { ⌜ Masked (now words) board (now palette) ⌝ }
     requires { ⌜ (count ≡ length (precomputedCells (puzzle (now words)))) × (count < 2147483648) ⌝ }
     requires { ⌜ length (sectionWords (precomputedCells (puzzle (now words)))) ≤ length (now out) ⌝ }
     ensures { λ r. ⌜ Wrote (sectionWords (precomputedCells (puzzle (now (words .entry))))) (now (out .entry)) 0 (now (out .exit)) r ⌝ }

@@ -1,3 +1,4 @@
+use Rattle.cells.proofs.LinePositions.{BlockRead}
 use Rattle.numbering.proofs.SoundLines.{sound-some, sound-shared, of-many}
 use mathlib.Core.Path.{_≡_, refl}
 use native.Mathlib.Omega.{arith}
@@ -14,10 +15,13 @@ use Rattle.cells.proofs.covering.covering_block.Reads as covering-block
 use Rattle.lists.proofs.wide.Reads as wide-reads
 
 abbrev Inv-loop : tie.InvT-loop
-Inv-loop line clue color t found₀ first p to₀ b₀ b-end found to b = (b-end ≡ length clue / 2) × Searching line clue color t found₀ 0 found to b
+Inv-loop line clue color t found₀ first p to₀ b₀ b-end found to b = (b-end ≡ length clue / 2) × Searching line clue color t found₀ found to b
 
 abbrev μ-loop : tie.MeasureT-loop
 μ-loop line clue color t found₀ first p to₀ b₀ b-end found to b = length clue / 2 - b
+
+block : (c : tie.After-wide4 Inv-loop μ-loop) → BlockRead (c .before .before .before .before .before .before .before .before .before .before .before .before .before .before .before .args .line .now) (c .before .before .before .before .before .before .before .before .before .before .before .before .before .before .before .args .clue .now) (c .before .before .before .before .before .before .before .loop .b) (c .before .before .before .before .before .before .before .before .before .before .wide .result) (c .before .before .before .before .before .before .before .before .wide2 .result) (c .before .before .wide3 .result) (c .wide4 .result)
+block c = record { below = omega arith; first-is = c .before .before .before .before .before .before .before .before .before .before .wide .ensures; positions-is = c .before .before .before .before .before .before .before .before .wide2 .ensures; start-is = c .before .before .wide3 .ensures; size-is = c .wide4 .ensures }
 
 shared-slice-read-wide : tie.Need-shared-slice-read-wide Inv-loop μ-loop
 shared-slice-read-wide c = search needs
@@ -32,7 +36,7 @@ wide-requires-2 : tie.Need-wide-requires-2 Inv-loop μ-loop
 wide-requires-2 c κs = search needs
 
 loop-holds : tie.Need-loop-holds Inv-loop μ-loop
-loop-holds c = (refl, searching-first (c .before .before .before .before .before .before .before .args .line .now) (c .before .before .before .before .before .before .before .args .clue .now) (c .before .before .before .before .before .before .before .args .color) (c .before .before .before .before .before .before .before .args .t) (c .before .before .before .before .before .before .before .pre .0) _ (c .before .before .before .before .before .before .before .pre .1 .1))
+loop-holds c = (refl, searching-first _ _ _ _ (c .before .before .before .before .before .before .before .pre .0) _ (c .before .before .before .before .before .before .before .pre .1 .1))
 
 mul-if1 : tie.Need-mul-if1 Inv-loop μ-loop
 mul-if1 c = search needs
@@ -53,7 +57,7 @@ loop-less : tie.Need-loop-less Inv-loop μ-loop
 loop-less c = search needs
 
 loop-again : tie.Need-loop-again Inv-loop μ-loop
-loop-again c = (c .before .before .before .loop .inv .0, searching-other (c .before .before .before .before .before .before .before .before .before .before .before .args .line .now) (c .before .before .before .before .before .before .before .before .before .before .before .args .clue .now) (c .before .before .before .before .before .before .before .before .before .before .before .args .color) (c .before .before .before .before .before .before .before .before .before .before .before .args .t) _ (omega arith) (c .before .before .before .loop .inv .1) (c .if1 .taken))
+loop-again c = (c .before .before .before .loop .inv .0, searching-other _ _ _ _ (c .before .before .before .loop .inv .1) (omega arith) (c .if1 .taken))
 
 add-wide : tie.Need-add-wide Inv-loop μ-loop
 add-wide c = search needs
@@ -80,13 +84,13 @@ wide-requires-4 : tie.Need-wide-requires-4 Inv-loop μ-loop
 wide-requires-4 c κs = search needs
 
 mul-covering-block : tie.Need-mul-covering-block Inv-loop μ-loop
-mul-covering-block c = omega (arith, block-within (c .before .before .before .before .before .before .before .before .before .before .before .before .before .before .before .args .line .now) (c .before .before .before .before .before .before .before .before .before .before .before .before .before .before .before .args .clue .now) (c .before .before .before .before .before .before .before .before .before .before .before .before .before .before .before .args .color) (c .before .before .before .before .before .before .before .before .before .before .before .before .before .before .before .args .t) (c .before .before .before .before .before .before .before .loop .b) (omega arith) (c .before .before .before .before .before .before .before .before .before .before .wide .ensures) (c .before .before .before .before .before .before .before .before .wide2 .ensures) (c .before .before .wide3 .ensures) (c .wide4 .ensures) (c .before .before .before .before .before .before .before .before .before .before .before .before .before .before .before .pre .0))
+mul-covering-block c = omega (arith, block-within (block c) (c .before .before .before .before .before .before .before .before .before .before .before .before .before .before .before .pre .0))
 
 add-covering-block : tie.Need-add-covering-block Inv-loop μ-loop
-add-covering-block c = omega (arith, block-within (c .before .before .before .before .before .before .before .before .before .before .before .before .before .before .before .args .line .now) (c .before .before .before .before .before .before .before .before .before .before .before .before .before .before .before .args .clue .now) (c .before .before .before .before .before .before .before .before .before .before .before .before .before .before .before .args .color) (c .before .before .before .before .before .before .before .before .before .before .before .before .before .before .before .args .t) (c .before .before .before .before .before .before .before .loop .b) (omega arith) (c .before .before .before .before .before .before .before .before .before .before .wide .ensures) (c .before .before .before .before .before .before .before .before .wide2 .ensures) (c .before .before .wide3 .ensures) (c .wide4 .ensures) (c .before .before .before .before .before .before .before .before .before .before .before .before .before .before .before .pre .0))
+add-covering-block c = omega (arith, block-within (block c) (c .before .before .before .before .before .before .before .before .before .before .before .before .before .before .before .pre .0))
 
 covering-block-requires : tie.Need-covering-block-requires Inv-loop μ-loop
-covering-block-requires c κs = (block-within (c .before .before .before .before .before .before .before .before .before .before .before .before .before .before .before .before .args .line .now) (c .before .before .before .before .before .before .before .before .before .before .before .before .before .before .before .before .args .clue .now) (c .before .before .before .before .before .before .before .before .before .before .before .before .before .before .before .before .args .color) (c .before .before .before .before .before .before .before .before .before .before .before .before .before .before .before .before .args .t) (c .before .before .before .before .before .before .before .before .loop .b) (omega arith) (c .before .before .before .before .before .before .before .before .before .before .before .wide .ensures) (c .before .before .before .before .before .before .before .before .before .wide2 .ensures) (c .before .before .before .wide3 .ensures) (c .before .wide4 .ensures) (c .before .before .before .before .before .before .before .before .before .before .before .before .before .before .before .before .pre .0), searching-room (c .before .before .before .before .before .before .before .before .before .before .before .before .before .before .before .before .args .line .now) (c .before .before .before .before .before .before .before .before .before .before .before .before .before .before .before .before .args .clue .now) (c .before .before .before .before .before .before .before .before .before .before .before .before .before .before .before .before .args .color) (c .before .before .before .before .before .before .before .before .before .before .before .before .before .before .before .before .args .t) (c .before .before .before .before .before .before .before .before .loop .b) (omega arith) (c .before .before .before .before .before .before .before .before .before .before .before .wide .ensures) (c .before .before .before .before .before .before .before .before .before .wide2 .ensures) (c .before .before .before .wide3 .ensures) (c .before .wide4 .ensures) (c .before .before .before .before .before .before .before .before .loop .inv .1) (c .before .before .before .before .before .if1 .left))
+covering-block-requires c κs = (block-within (block (c .before)) (c .before .before .before .before .before .before .before .before .before .before .before .before .before .before .before .before .pre .0), searching-room _ _ _ _ (c .before .before .before .before .before .before .before .before .loop .inv .1) (block (c .before)) (c .before .before .before .before .before .if1 .left))
 
 add-b-2 : tie.Need-add-b-2 Inv-loop μ-loop
 add-b-2 c = search needs
@@ -95,13 +99,13 @@ loop-less-2 : tie.Need-loop-less-2 Inv-loop μ-loop
 loop-less-2 c = search needs
 
 loop-again-2 : tie.Need-loop-again-2 Inv-loop μ-loop
-loop-again-2 c = (c .before .before .before .before .before .before .before .before .before .before .before .loop .inv .0, searching-next (c .before .before .before .before .before .before .before .before .before .before .before .before .before .before .before .before .before .before .before .args .line .now) (c .before .before .before .before .before .before .before .before .before .before .before .before .before .before .before .before .before .before .before .args .clue .now) (c .before .before .before .before .before .before .before .before .before .before .before .before .before .before .before .before .before .before .before .args .color) (c .before .before .before .before .before .before .before .before .before .before .before .before .before .before .before .before .before .before .before .args .t) (c .before .before .before .before .before .before .before .before .before .before .before .loop .b) (omega arith) (c .before .before .before .before .before .before .before .before .before .before .before .before .before .before .wide .ensures) (c .before .before .before .before .before .before .before .before .before .before .before .before .wide2 .ensures) (c .before .before .before .before .before .before .wide3 .ensures) (c .before .before .before .before .wide4 .ensures) (c .before .before .before .before .before .before .before .before .before .before .before .loop .inv .1) (c .before .before .before .before .before .before .before .before .if1 .left) (c .before .before .covering-block .ensures))
+loop-again-2 c = (c .before .before .before .before .before .before .before .before .before .before .before .loop .inv .0, searching-next _ _ _ _ (c .before .before .before .before .before .before .before .before .before .before .before .loop .inv .1) (block (c .before .before .before .before)) (c .before .before .before .before .before .before .before .before .if1 .left) (c .before .before .covering-block .ensures))
 
 same-length : tie.Need-same-length Inv-loop μ-loop
 same-length c = emit-kept (c .before .loop .inv .1)
 
 returns : tie.Need-returns Inv-loop μ-loop
-returns c = searching-done (c .before .before .before .before .before .before .before .before .before .args .line .now) (c .before .before .before .before .before .before .before .before .before .args .clue .now) (c .before .before .before .before .before .before .before .before .before .args .color) (c .before .before .before .before .before .before .before .before .before .args .t) (c .before .loop .inv .1) (omega arith)
+returns c = searching-done _ _ _ _ (c .before .loop .inv .1) (omega arith)
 
 pub covering-positions-spec : {M : Type 1} → statement M
 covering-positions-spec =

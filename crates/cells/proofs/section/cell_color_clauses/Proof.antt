@@ -24,16 +24,16 @@ abbrev μ-loop : tie.MeasureT-loop
 μ-loop rule words table palette x y found₀ out₀ at width first to₀ r₀ r-end found out to r = length palette - r
 
 mul-first : tie.Need-mul-first Inv-loop μ-loop
-mul-first c = omega (arith, cell-place (given-shows (c .before .before .before .pre .0)) (c .before .before .before .args .x) (c .before .before .before .args .y) (c .before .before .before .pre .1 .0 .0) (c .before .before .before .pre .1 .0 .1))
+mul-first c = omega (arith, cell-place (given-shows (c .before .before .before .pre .0)) _ _ (c .before .before .before .pre .1 .0 .0) (c .before .before .before .pre .1 .0 .1))
 
 add-first : tie.Need-add-first Inv-loop μ-loop
-add-first c = omega (arith, cell-place (given-shows (c .before .before .before .pre .0)) (c .before .before .before .args .x) (c .before .before .before .args .y) (c .before .before .before .pre .1 .0 .0) (c .before .before .before .pre .1 .0 .1))
+add-first c = omega (arith, cell-place (given-shows (c .before .before .before .pre .0)) _ _ (c .before .before .before .pre .1 .0 .0) (c .before .before .before .pre .1 .0 .1))
 
 mul-first-2 : tie.Need-mul-first-2 Inv-loop μ-loop
-mul-first-2 c = omega (arith, cell-variables (given-shows (c .before .before .before .pre .0)) (c .before .before .before .args .x) (c .before .before .before .args .y) (c .before .before .before .pre .1 .0 .0) (c .before .before .before .pre .1 .0 .1))
+mul-first-2 c = omega (arith, cell-variables (given-shows (c .before .before .before .pre .0)) _ _ (c .before .before .before .pre .1 .0 .0) (c .before .before .before .pre .1 .0 .1))
 
 add-first-2 : tie.Need-add-first-2 Inv-loop μ-loop
-add-first-2 c = omega (arith, cell-variables (given-shows (c .before .before .before .before .pre .0)) (c .before .before .before .before .args .x) (c .before .before .before .before .args .y) (c .before .before .before .before .pre .1 .0 .0) (c .before .before .before .before .pre .1 .0 .1))
+add-first-2 c = omega (arith, cell-variables (given-shows (c .before .before .before .before .pre .0)) _ _ (c .before .before .before .before .pre .1 .0 .0) (c .before .before .before .before .pre .1 .0 .1))
 
 loop-holds : tie.Need-loop-holds Inv-loop μ-loop
 loop-holds c = (refl, coloring-first _ _ _ _ _ _ (c .before .before .before .before .pre .1 .1))
@@ -45,10 +45,10 @@ shared-slice-read-color : tie.Need-shared-slice-read-color Inv-loop μ-loop
 shared-slice-read-color c = search needs
 
 add-t23 : tie.Need-add-t23 Inv-loop μ-loop
-add-t23 c = omega (arith, cell-variables (given-shows (c .before .before .before .before .before .before .before .pre .0)) (c .before .before .before .before .before .before .before .args .x) (c .before .before .before .before .before .before .before .args .y) (c .before .before .before .before .before .before .before .pre .1 .0 .0) (c .before .before .before .before .before .before .before .pre .1 .0 .1))
+add-t23 c = omega (arith, cell-variables (given-shows (c .before .before .before .before .before .before .before .pre .0)) _ _ (c .before .before .before .before .before .before .before .pre .1 .0 .0) (c .before .before .before .before .before .before .before .pre .1 .0 .1))
 
 color-clauses-requires : tie.Need-color-clauses-requires Inv-loop μ-loop
-color-clauses-requires c κs = (c .before .before .before .before .before .before .before .before .before .pre .0 .ready, ((c .before .before .before .before .before .before .before .before .before .pre .0 .stands .width-is, c .before .before .before .before .before .before .before .before .before .pre .1 .0 .0, omega (arith, c .before .before .before .before .before .before .before .before .before .pre .1 .0 .1, c .before .before .before .before .before .before .before .before .before .pre .0 .stands .height-is), color-variable (c .before .before .before .before .before .before .before .before .before .pre .0) (c .before .before .before .before .before .before .before .before .before .args .rule) (c .before .before .before .before .before .before .before .before .before .args .x) (c .before .before .before .before .before .before .before .before .before .args .y) {r = c .before .before .before .before .loop .r} (omega arith) (c .before .before .before .before .before .before .before .before .before .pre .1 .0 .0) (c .before .before .before .before .before .before .before .before .before .pre .1 .0 .1)), coloring-room (c .before .before .before .before .before .before .before .before .before .pre .0) (c .before .before .before .before .before .before .before .before .before .args .rule) (c .before .before .before .before .before .before .before .before .before .args .x) (c .before .before .before .before .before .before .before .before .before .args .y) (omega arith) (c .before .before .before .before .loop .inv .1)))
+color-clauses-requires c κs = (c .before .before .before .before .before .before .before .before .before .pre .0 .ready, ((c .before .before .before .before .before .before .before .before .before .pre .0 .stands .width-is, c .before .before .before .before .before .before .before .before .before .pre .1 .0 .0, omega (arith, c .before .before .before .before .before .before .before .before .before .pre .1 .0 .1, c .before .before .before .before .before .before .before .before .before .pre .0 .stands .height-is), color-variable (c .before .before .before .before .before .before .before .before .before .pre .0) (c .before .before .before .before .before .before .before .before .before .args .rule) _ _ (omega arith) (c .before .before .before .before .before .before .before .before .before .pre .1 .0 .0) (c .before .before .before .before .before .before .before .before .before .pre .1 .0 .1)), coloring-room (c .before .before .before .before .before .before .before .before .before .pre .0) _ _ _ (omega arith) (c .before .before .before .before .loop .inv .1)))
 
 add-r : tie.Need-add-r Inv-loop μ-loop
 add-r c = search needs
@@ -57,13 +57,13 @@ loop-less : tie.Need-loop-less Inv-loop μ-loop
 loop-less c = search needs
 
 loop-again : tie.Need-loop-again Inv-loop μ-loop
-loop-again c = (c .before .before .before .before .before .before .loop .inv .0, coloring-next (c .before .before .before .before .before .before .before .before .before .before .before .pre .0) (c .before .before .before .before .before .before .before .before .before .before .before .args .rule) (c .before .before .before .before .before .before .before .before .before .before .before .args .x) (c .before .before .before .before .before .before .before .before .before .before .before .args .y) (omega arith) (c .before .before .before .before .before .before .loop .inv .1) (c .before .color-clauses .ensures))
+loop-again c = (c .before .before .before .before .before .before .loop .inv .0, coloring-next (c .before .before .before .before .before .before .before .before .before .before .before .pre .0) _ _ _ (omega arith) (c .before .before .before .before .before .before .loop .inv .1) (c .before .color-clauses .ensures))
 
 same-length : tie.Need-same-length Inv-loop μ-loop
 same-length c = emit-kept (c .before .loop .inv .1)
 
 returns : tie.Need-returns Inv-loop μ-loop
-returns c = coloring-done (c .before .before .before .before .before .before .pre .0) (c .before .before .before .before .before .before .args .rule) (c .before .before .before .before .before .before .args .x) (c .before .before .before .before .before .before .args .y) (c .before .loop .inv .1) (omega arith)
+returns c = coloring-done (c .before .before .before .before .before .before .pre .0) _ _ _ (c .before .loop .inv .1) (omega arith)
 
 pub cell-color-clauses-spec : {M : Type 1} → statement M
 cell-color-clauses-spec =

@@ -1,8 +1,6 @@
-use Rattle.cells.proofs.Asking.{part-sound, part-long, front-few, front-asked, front-wrote}
-use lib.Seq.{length-take-le}
-use mathlib.Core.Path.{sym, _∙_}
 use native.Mathlib.Omega.{arith}
-use Rattle.numbering.proofs.Parts.{ready-sound, ready-low, ready-within, ready-line}
+use Rattle.numbering.proofs.Parts.{ready-within}
+use Rattle.cells.proofs.Asking.{Located, clue-within, part-sound, part-long, front-within, front-length, front-asked, front-wrote}
 use borrow.Author.Needs.{needs}
 use Rattle.cells.proofs.section.cover_line.Statement.{statement}
 use Rattle.cells.proofs.section.cover_line.Tie as tie
@@ -13,11 +11,14 @@ use Rattle.cells.proofs.covering.covering_positions.Reads as covering-p
 use Rattle.cells.proofs.support.rule_clauses.Reads as rule-clauses-reads
 use Rattle.lists.proofs.wide.Reads as wide-reads
 
+located : (c : tie.After-clue-end) → Located (c .before .before .before .before .before .before .args .words .now) (c .before .before .before .before .before .before .args .table .now) (c .before .before .before .before .before .before .args .l) (c .before .wide .result) (c .clue-end .result)
+located c = record { ready = c .before .before .before .before .before .before .pre .0; below = c .before .before .before .before .before .before .pre .1 .0 .0; from-is = c .before .wide .ensures; end-is = c .clue-end .ensures }
+
+mul-place : tie.Need-mul-place
+mul-place c = search needs
+
 mul-wide : tie.Need-mul-wide
 mul-wide c = search needs
-
-mul-wide-2 : tie.Need-mul-wide-2
-mul-wide-2 c = search needs
 
 shared-slice-read-wide : tie.Need-shared-slice-read-wide
 shared-slice-read-wide c = search needs
@@ -26,19 +27,13 @@ wide-requires : tie.Need-wide-requires
 wide-requires c κs = search needs
 
 clue-end-requires : tie.Need-clue-end-requires
-clue-end-requires c κs = ready-within (c .before .before .before .before .before .args .words .now) (c .before .before .before .before .before .args .table .now) (c .before .before .before .before .before .pre .0) (c .before .before .before .before .before .args .l) (c .before .before .before .before .before .pre .1 .0 .0) (c .wide .ensures)
-
-mul-covering-positions : tie.Need-mul-covering-positions
-mul-covering-positions c = search needs
-
-mul-covering-positions-2 : tie.Need-mul-covering-positions-2
-mul-covering-positions-2 c = search needs
+clue-end-requires c κs = ready-within _ _ (c .before .before .before .before .before .pre .0) _ (c .before .before .before .before .before .pre .1 .0 .0) (c .wide .ensures)
 
 add-covering-positions : tie.Need-add-covering-positions
 add-covering-positions c = search needs
 
-mul-covering-positions-3 : tie.Need-mul-covering-positions-3
-mul-covering-positions-3 c = search needs
+mul-covering-positions : tie.Need-mul-covering-positions
+mul-covering-positions c = search needs
 
 sub-covering-positions : tie.Need-sub-covering-positions
 sub-covering-positions c = search needs
@@ -52,8 +47,8 @@ part-covering-positions-end c = search needs
 add-covering-positions-2 : tie.Need-add-covering-positions-2
 add-covering-positions-2 c = search needs
 
-mul-covering-positions-4 : tie.Need-mul-covering-positions-4
-mul-covering-positions-4 c = omega (arith, ready-within (c .before .before .before .before .before .before .before .args .words .now) (c .before .before .before .before .before .before .before .args .table .now) (c .before .before .before .before .before .before .before .pre .0) (c .before .before .before .before .before .before .before .args .l) (c .before .before .before .before .before .before .before .pre .1 .0 .0) (c .before .before .wide .ensures), c .before .clue-end .ensures)
+mul-covering-positions-2 : tie.Need-mul-covering-positions-2
+mul-covering-positions-2 c = omega (arith, clue-within (located (c .before)))
 
 sub-covering-positions-2 : tie.Need-sub-covering-positions-2
 sub-covering-positions-2 c = search needs
@@ -62,19 +57,19 @@ part-covering-positions-start-2 : tie.Need-part-covering-positions-start-2
 part-covering-positions-start-2 c = search needs
 
 part-covering-positions-end-2 : tie.Need-part-covering-positions-end-2
-part-covering-positions-end-2 c = omega (arith, ready-within (c .before .before .before .before .before .before .before .args .words .now) (c .before .before .before .before .before .before .before .args .table .now) (c .before .before .before .before .before .before .before .pre .0) (c .before .before .before .before .before .before .before .args .l) (c .before .before .before .before .before .before .before .pre .1 .0 .0) (c .before .before .wide .ensures), c .before .clue-end .ensures)
+part-covering-positions-end-2 c = clue-within (located (c .before))
 
 covering-positions-requires : tie.Need-covering-positions-requires
-covering-positions-requires c κs = (part-sound (c .before .before .before .before .before .before .before .before .before .args .words .now) (c .before .before .before .before .before .before .before .before .before .args .table .now) (c .before .before .before .before .before .before .before .before .before .pre .0) (c .before .before .before .before .before .before .before .before .before .args .l) (c .before .before .before .before .before .before .before .before .before .pre .1 .0 .0) (c .before .before .before .before .wide .ensures) (c .before .before .before .clue-end .ensures), (part-long (c .before .before .before .before .before .before .before .before .before .args .words .now) (c .before .before .before .before .before .before .before .before .before .args .table .now) (c .before .before .before .before .before .before .before .before .before .pre .0) (c .before .before .before .before .before .before .before .before .before .args .l) (c .before .before .before .before .before .before .before .before .before .pre .1 .0 .0) (c .before .before .before .before .wide .ensures) (c .before .before .before .clue-end .ensures), c .before .before .before .before .before .before .before .before .before .pre .1 .0 .2))
+covering-positions-requires c κs = (part-sound (located (c .before .before .before)), (part-long (located (c .before .before .before)), c .before .before .before .before .before .before .before .before .before .pre .1 .0 .2))
 
 slice-reshare-prefix-rule-clauses : tie.Need-slice-reshare-prefix-rule-clauses
-slice-reshare-prefix-rule-clauses c = omega (arith, front-few (c .before .before .before .before .before .before .before .before .before .before .before .before .args .words .now) (c .before .before .before .before .before .before .before .before .before .before .before .before .args .table .now) (c .before .before .before .before .before .before .before .before .before .before .before .before .pre .0) (c .before .before .before .before .before .before .before .before .before .before .before .before .args .l) (c .before .before .before .before .before .before .before .before .before .before .before .before .pre .1 .0 .0) (c .before .before .before .before .before .before .before .wide .ensures) (c .before .before .before .before .before .before .clue-end .ensures) (c .before .before .before .before .before .before .before .before .before .before .before .before .args .ask .color) (c .before .before .before .before .before .before .before .before .before .before .before .before .args .t) (c .before .before .covering-positions .ensures), c .before .before .before .before .before .before .before .before .before .before .before .before .pre .1 .0, c .before .before .covering-positions .kept .1 .1 .1 .1 .0)
+slice-reshare-prefix-rule-clauses c = front-within (located (c .before .before .before .before .before .before)) _ _ (c .before .before .covering-positions .ensures) (c .before .before .before .before .before .before .before .before .before .before .before .before .pre .1 .0 .2) (c .before .before .covering-positions .kept .1 .1 .1 .1 .0)
 
 slice-aggregate-rule-clauses : tie.Need-slice-aggregate-rule-clauses
-slice-aggregate-rule-clauses c = sym (length-take-le _ _ (omega (arith, front-few (c .before .before .before .before .before .before .before .before .before .before .before .before .before .args .words .now) (c .before .before .before .before .before .before .before .before .before .before .before .before .before .args .table .now) (c .before .before .before .before .before .before .before .before .before .before .before .before .before .pre .0) (c .before .before .before .before .before .before .before .before .before .before .before .before .before .args .l) (c .before .before .before .before .before .before .before .before .before .before .before .before .before .pre .1 .0 .0) (c .before .before .before .before .before .before .before .before .wide .ensures) (c .before .before .before .before .before .before .before .clue-end .ensures) (c .before .before .before .before .before .before .before .before .before .before .before .before .before .args .ask .color) (c .before .before .before .before .before .before .before .before .before .before .before .before .before .args .t) (c .before .before .before .covering-positions .ensures), c .before .before .before .before .before .before .before .before .before .before .before .before .before .pre .1 .0, c .before .before .before .covering-positions .kept .1 .1 .1 .1 .0)))
+slice-aggregate-rule-clauses c = front-length (located (c .before .before .before .before .before .before .before)) _ _ (c .before .before .before .covering-positions .ensures) (c .before .before .before .before .before .before .before .before .before .before .before .before .before .pre .1 .0 .2) (c .before .before .before .covering-positions .kept .1 .1 .1 .1 .0)
 
 rule-clauses-requires : tie.Need-rule-clauses-requires
-rule-clauses-requires c κs = front-asked (c .before .before .before .before .before .before .before .before .before .before .before .before .before .before .args .words .now) (c .before .before .before .before .before .before .before .before .before .before .before .before .before .before .args .table .now) (c .before .before .before .before .before .before .before .before .before .before .before .before .before .before .pre .0) (c .before .before .before .before .before .before .before .before .before .before .before .before .before .before .args .l) (c .before .before .before .before .before .before .before .before .before .before .before .before .before .before .pre .1 .0 .0) (c .before .before .before .before .before .before .before .before .before .wide .ensures) (c .before .before .before .before .before .before .before .before .clue-end .ensures) (c .before .before .before .before .before .before .before .before .before .before .before .before .before .before .args .ask .color) (c .before .before .before .before .before .before .before .before .before .before .before .before .before .before .args .t) (c .before .before .before .before .covering-positions .ensures) (c .before .before .before .before .before .before .before .before .before .before .before .before .before .before .args .ask .rule) (c .before .before .before .before .before .before .before .before .before .before .before .before .before .before .args .ask .v) (c .before .before .before .before .before .before .before .before .before .before .before .before .before .before .args .at) (c .before .before .before .before .before .before .before .before .before .before .before .before .before .before .args .out .now) (c .before .before .before .before .before .before .before .before .before .before .before .before .before .before .pre .1 .0 .1) (c .before .before .before .before .before .before .before .before .before .before .before .before .before .before .pre .1 .1)
+rule-clauses-requires c κs = front-asked (located (c .before .before .before .before .before .before .before .before)) _ _ (c .before .before .before .before .covering-positions .ensures) _ _ _ (c .before .before .before .before .before .before .before .before .before .before .before .before .before .before .args .out .now) (c .before .before .before .before .before .before .before .before .before .before .before .before .before .before .pre .1 .0 .1) (c .before .before .before .before .before .before .before .before .before .before .before .before .before .before .pre .1 .1)
 
 same-length : tie.Need-same-length
 same-length c = c .before .before .before .before .before .before .covering-positions .kept .1 .1 .1 .1 .0
@@ -83,26 +78,24 @@ same-length-2 : tie.Need-same-length-2
 same-length-2 c = c .before .rule-clauses .kept .1 .1 .1 .0
 
 returns : tie.Need-returns
-returns c = front-wrote (c .before .before .before .before .before .before .before .before .before .before .before .before .before .before .before .before .args .words .now) (c .before .before .before .before .before .before .before .before .before .before .before .before .before .before .before .before .args .table .now) (c .before .before .before .before .before .before .before .before .before .before .before .before .before .before .before .before .pre .0) (c .before .before .before .before .before .before .before .before .before .before .before .before .before .before .before .before .args .l) (c .before .before .before .before .before .before .before .before .before .before .before .before .before .before .before .before .pre .1 .0 .0) (c .before .before .before .before .before .before .before .before .before .before .before .wide .ensures) (c .before .before .before .before .before .before .before .before .before .before .clue-end .ensures) (c .before .before .before .before .before .before .before .before .before .before .before .before .before .before .before .before .args .ask .color) (c .before .before .before .before .before .before .before .before .before .before .before .before .before .before .before .before .args .t) (c .before .before .before .before .before .before .covering-positions .ensures) (c .before .before .before .before .before .before .before .before .before .before .before .before .before .before .before .before .args .ask .rule) (c .before .before .before .before .before .before .before .before .before .before .before .before .before .before .before .before .args .ask .v) (c .before .rule-clauses .ensures)
+returns c = front-wrote (located (c .before .before .before .before .before .before .before .before .before .before)) _ _ (c .before .before .before .before .before .before .covering-positions .ensures) _ _ (c .before .rule-clauses .ensures)
 
 pub cover-line-spec : {M : Type 1} → statement M
 cover-line-spec =
     tie.close
     (tie.spec
+    mul-place
     mul-wide
-    mul-wide-2
     shared-slice-read-wide
     wide-requires
     clue-end-requires
-    mul-covering-positions
-    mul-covering-positions-2
     add-covering-positions
-    mul-covering-positions-3
+    mul-covering-positions
     sub-covering-positions
     part-covering-positions-start
     part-covering-positions-end
     add-covering-positions-2
-    mul-covering-positions-4
+    mul-covering-positions-2
     sub-covering-positions-2
     part-covering-positions-start-2
     part-covering-positions-end-2

@@ -1,5 +1,7 @@
+use Rattle.lists.proofs.Emitting.{emit-kept}
+use lib.ListN.{length-set}
 use Rattle.cells.specs.Cells.{ofCells}
-use Rattle.cells.proofs.Counted.{count-room, count-first, count-kept, count-done}
+use Rattle.cells.proofs.Counted.{count-room, count-first, count-done}
 use mathlib.Core.Path.{_≡_, refl, ap, _∙_}
 use native.Mathlib.Omega.{arith}
 use Prim.Native.Nat.{_-_, _+_, _*_}
@@ -30,10 +32,10 @@ number-requires : tie.Need-number-requires Inv-loop μ-loop
 number-requires c κs = c .before .before .before .pre .1 .0 .1
 
 slice-set-from-out : tie.Need-slice-set-from-out Inv-loop μ-loop
-slice-set-from-out c = count-room (ofCells (puzzle (c .before .before .before .before .args .words .now)) (c .before .before .before .before .args .rule)) (c .before .before .before .before .args .out .now) (c .before .before .before .before .pre .1 .1)
+slice-set-from-out c = count-room _ _ (c .before .before .before .before .pre .1 .1)
 
 loop-holds : tie.Need-loop-holds Inv-loop μ-loop
-loop-holds c = (refl, count-first (c .before .before .before .before .args .board .width) (λ k. each (c .before .before .before .before .args .board .height) (ofCell (puzzle (c .before .before .before .before .args .words .now)) (c .before .before .before .before .args .rule) k)) (columns-are (c .before .before .before .before .pre .0) (c .before .before .before .before .args .rule)) (c .before .before .before .before .args .out .now) (c .before .before .before .before .pre .1 .1) _)
+loop-holds c = (refl, count-first _ _ (columns-are (c .before .before .before .before .pre .0) (c .before .before .before .before .args .rule)) (c .before .before .before .before .args .out .now) (c .before .before .before .before .pre .1 .1) _)
 
 column-clauses-requires : tie.Need-column-clauses-requires Inv-loop μ-loop
 column-clauses-requires c κs = (c .before .before .before .before .before .before .before .before .pre .0, (omega arith, emit-room (c .before .before .before .loop .inv .1) (omega arith)))
@@ -48,10 +50,10 @@ loop-again : tie.Need-loop-again Inv-loop μ-loop
 loop-again c = (c .before .before .before .before .before .loop .inv .0, emit-next (c .before .before .before .before .before .loop .inv .1) (omega arith) (c .before .column-clauses .ensures))
 
 same-length : tie.Need-same-length Inv-loop μ-loop
-same-length c = count-kept (c .before .before .before .before .before .before .args .board .width) (λ k. each (c .before .before .before .before .before .before .args .board .height) (ofCell (puzzle (c .before .before .before .before .before .before .args .words .now)) (c .before .before .before .before .before .before .args .rule) k)) (columns-are (c .before .before .before .before .before .before .pre .0) (c .before .before .before .before .before .before .args .rule)) (c .before .before .before .before .before .before .args .out .now) (c .before .before .before .before .before .before .pre .1 .1) _ (c .before .loop .inv .1)
+same-length c = emit-kept (c .before .loop .inv .1) ∙ simp length-set
 
 returns : tie.Need-returns Inv-loop μ-loop
-returns c = count-done (c .before .before .before .before .before .before .args .board .width) (λ k. each (c .before .before .before .before .before .before .args .board .height) (ofCell (puzzle (c .before .before .before .before .before .before .args .words .now)) (c .before .before .before .before .before .before .args .rule) k)) (columns-are (c .before .before .before .before .before .before .pre .0) (c .before .before .before .before .before .before .args .rule)) (c .before .before .before .before .before .before .args .out .now) (c .before .before .before .before .before .before .pre .1 .1) _ (c .before .loop .inv .1) (word-is (c .before .before .number .result) (c .before .before .number .ok) ∙ c .before .before .number .ensures ∙ ap pos (c .before .before .before .before .before .before .pre .1 .0 .0)) (omega arith)
+returns c = count-done _ _ (columns-are (c .before .before .before .before .before .before .pre .0) (c .before .before .before .before .before .before .args .rule)) (c .before .before .before .before .before .before .args .out .now) (c .before .before .before .before .before .before .pre .1 .1) _ (word-is (c .before .before .number .result) (c .before .before .number .ok) ∙ c .before .before .number .ensures ∙ ap pos (c .before .before .before .before .before .before .pre .1 .0 .0)) (c .before .loop .inv .1) (omega arith)
 
 pub write-cells-spec : {M : Type 1} → statement M
 write-cells-spec =

@@ -1,3 +1,5 @@
+use Rattle.lists.proofs.Emitting.{emit-kept}
+use lib.ListN.{length-set}
 use Rattle.cells.specs.Cells.{pointOnce}
 use Rattle.points.proofs.PointCells.{once-same}
 use mathlib.Core.Path.{_≡_, refl, ap, _∙_}
@@ -7,7 +9,7 @@ use lib.IntN.{pos}
 use Rattle.lists.proofs.Emitting.{Emitting, emit-room, emit-next}
 use Rattle.literals.proofs.Words.{word-is}
 use Rattle.sections.specs.Sections.{clausesWords}
-use Rattle.cells.proofs.Counted.{count-room, count-first, count-kept, count-done}
+use Rattle.cells.proofs.Counted.{count-room, count-first, count-done}
 use Rattle.points.specs.Points.{columnOnce}
 use Rattle.points.proofs.PointCells.{columns-once}
 use borrow.Author.Needs.{needs}
@@ -28,10 +30,10 @@ number-requires : tie.Need-number-requires Inv-loop μ-loop
 number-requires c κs = search needs
 
 slice-set-from-out : tie.Need-slice-set-from-out Inv-loop μ-loop
-slice-set-from-out c = count-room (pointOnce (c .before .pre .0 .0)) (c .before .args .out .now) (c .before .pre .0 .3)
+slice-set-from-out c = count-room _ _ (c .before .pre .0 .3)
 
 loop-holds : tie.Need-loop-holds Inv-loop μ-loop
-loop-holds c = (refl, count-first (c .before .args .board .width) (columnOnce (c .before .args .board) (c .before .args .k)) (columns-once (c .before .pre .0 .1)) (c .before .args .out .now) (c .before .pre .0 .3) _)
+loop-holds c = (refl, count-first _ _ (columns-once (c .before .pre .0 .1)) (c .before .args .out .now) (c .before .pre .0 .3) _)
 
 column-points-requires : tie.Need-column-points-requires Inv-loop μ-loop
 column-points-requires c κs = ((c .before .before .before .before .pre .0 .0, c .before .before .before .before .pre .0 .1), (omega arith, emit-room (c .before .before .loop .inv .1) (omega arith)))
@@ -46,10 +48,10 @@ loop-again : tie.Need-loop-again Inv-loop μ-loop
 loop-again c = (c .before .before .before .before .loop .inv .0, emit-next (c .before .before .before .before .loop .inv .1) (omega arith) (c .before .column-points .ensures))
 
 same-length : tie.Need-same-length Inv-loop μ-loop
-same-length c = count-kept (c .before .before .before .args .board .width) (columnOnce (c .before .before .before .args .board) (c .before .before .before .args .k)) (columns-once (c .before .before .before .pre .0 .1)) (c .before .before .before .args .out .now) (c .before .before .before .pre .0 .3) _ (c .before .loop .inv .1)
+same-length c = emit-kept (c .before .loop .inv .1) ∙ simp length-set
 
 returns : tie.Need-returns Inv-loop μ-loop
-returns c = λ z S. rw (once-same (c .before .before .before .pre .0 .1) S) at (count-done (c .before .before .before .args .board .width) (columnOnce (c .before .before .before .args .board) (c .before .before .before .args .k)) (columns-once (c .before .before .before .pre .0 .1)) (c .before .before .before .args .out .now) (c .before .before .before .pre .0 .3) _ (c .before .loop .inv .1) (word-is (c .before .before .number .result) (c .before .before .number .ok) ∙ c .before .before .number .ensures ∙ ap pos (c .before .before .before .pre .0 .2)) (omega arith))
+returns c = λ z S. rw (once-same (c .before .before .before .pre .0 .1) S) at (count-done _ _ (columns-once (c .before .before .before .pre .0 .1)) (c .before .before .before .args .out .now) (c .before .before .before .pre .0 .3) _ (word-is (c .before .before .number .result) (c .before .before .number .ok) ∙ c .before .before .number .ensures ∙ ap pos (c .before .before .before .pre .0 .2)) (c .before .loop .inv .1) (omega arith))
 
 pub write-points-spec : {M : Type 1} → statement M
 write-points-spec =

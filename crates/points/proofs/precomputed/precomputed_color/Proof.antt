@@ -22,43 +22,43 @@ no-requires : tie.Need-no-requires
 no-requires c κs = search needs
 
 put-one-requires : tie.Need-put-one-requires
-put-one-requires c κs = unit-room _ _ (solved-blank (c .before .before .before .before .before .before .args .mask) (c .before .before .before .before .before .before .args .color) (c .before .before .before .before .before .before .args .v) (omega arith) (c .before .before .before .before .if1 .taken) (sym (c .before .before .before .has2 .ensures) ∙ c .before .before .if2 .taken)) _ _ (c .before .before .before .before .before .before .pre .1)
+put-one-requires c κs = unit-room _ _ (solved-blank (c .before .before .before .before .before .before .args .mask) _ _ (omega arith) (c .before .before .before .before .if1 .taken) (sym (c .before .before .before .has2 .ensures) ∙ c .before .before .if2 .taken)) _ _ (c .before .before .before .before .before .before .pre .1)
 
 same-length : tie.Need-same-length
 same-length c = search needs
 
 returns : tie.Need-returns
-returns c = unit-wrote _ _ (solved-blank (c .before .before .before .before .before .before .before .before .args .mask) (c .before .before .before .before .before .before .before .before .args .color) (c .before .before .before .before .before .before .before .before .args .v) (omega arith) (c .before .before .before .before .before .before .if1 .taken) (sym (c .before .before .before .before .before .has2 .ensures) ∙ c .before .before .before .before .if2 .taken)) (word-is (c .before .before .before .no .result) (c .before .before .before .no .ok) ∙ c .before .before .before .no .ensures) (c .before .put-one .ensures)
+returns c = unit-wrote _ _ (solved-blank (c .before .before .before .before .before .before .before .before .args .mask) _ _ (omega arith) (c .before .before .before .before .before .before .if1 .taken) (sym (c .before .before .before .before .before .has2 .ensures) ∙ c .before .before .before .before .if2 .taken)) (word-is (c .before .before .before .no .result) (c .before .before .before .no .ok) ∙ c .before .before .before .no .ensures) (c .before .put-one .ensures)
 
 yes-requires : tie.Need-yes-requires
 yes-requires c κs = search needs
 
 put-one-requires-2 : tie.Need-put-one-requires-2
-put-one-requires-2 c κs = unit-room _ _ (solved-color (c .before .before .before .before .before .before .before .args .mask) (c .before .before .before .before .before .before .before .args .color) (c .before .before .before .before .before .before .before .args .v) (omega arith) (c .before .before .before .before .before .if1 .taken) (sym (c .before .before .before .before .has2 .ensures) ∙ c .before .before .before .if2 .left) (sym (c .before .before .before .before .before .before .has .ensures) ∙ c .before .before .if3 .taken)) _ _ (c .before .before .before .before .before .before .before .pre .1)
+put-one-requires-2 c κs = unit-room _ _ (solved-color (c .before .before .before .before .before .before .before .args .mask) _ _ (omega arith) (c .before .before .before .before .before .if1 .taken) (sym (c .before .before .before .before .has2 .ensures) ∙ c .before .before .before .if2 .left) (sym (c .before .before .before .before .before .before .has .ensures) ∙ c .before .before .if3 .taken)) _ _ (c .before .before .before .before .before .before .before .pre .1)
 
 same-length-2 : tie.Need-same-length-2
 same-length-2 c = search needs
 
 returns-2 : tie.Need-returns-2
-returns-2 c = unit-wrote _ _ (solved-color (c .before .before .before .before .before .before .before .before .before .args .mask) (c .before .before .before .before .before .before .before .before .before .args .color) (c .before .before .before .before .before .before .before .before .before .args .v) (omega arith) (c .before .before .before .before .before .before .before .if1 .taken) (sym (c .before .before .before .before .before .before .has2 .ensures) ∙ c .before .before .before .before .before .if2 .left) (sym (c .before .before .before .before .before .before .before .before .has .ensures) ∙ c .before .before .before .before .if3 .taken)) (word-is (c .before .before .before .yes .result) (c .before .before .before .yes .ok) ∙ c .before .before .before .yes .ensures) (c .before .put-one2 .ensures)
+returns-2 c = unit-wrote _ _ (solved-color (c .before .before .before .before .before .before .before .before .before .args .mask) _ _ (omega arith) (c .before .before .before .before .before .before .before .if1 .taken) (sym (c .before .before .before .before .before .before .has2 .ensures) ∙ c .before .before .before .before .before .if2 .left) (sym (c .before .before .before .before .before .before .before .before .has .ensures) ∙ c .before .before .before .before .if3 .taken)) (word-is (c .before .before .before .yes .result) (c .before .before .before .yes .ok) ∙ c .before .before .before .yes .ensures) (c .before .put-one2 .ensures)
 
 returns-3 : tie.Need-returns-3
-returns-3 c = none-wrote _ (solved-other (c .before .before .before .before .before .args .mask) (c .before .before .before .before .before .args .color) (c .before .before .before .before .before .args .v) (omega arith) (c .before .before .before .if1 .taken) (sym (c .before .before .has2 .ensures) ∙ c .before .if2 .left) (sym (c .before .before .before .before .has .ensures) ∙ c .if3 .left)) _ _
+returns-3 c = none-wrote _ (solved-other (c .before .before .before .before .before .args .mask) _ _ (omega arith) (c .before .before .before .if1 .taken) (sym (c .before .before .has2 .ensures) ∙ c .before .if2 .left) (sym (c .before .before .before .before .has .ensures) ∙ c .if3 .left)) _ _
 
 returns-4 : tie.Need-returns-4
-returns-4 c = none-wrote _ (unsolved-open (c .before .before .before .args .mask) (c .before .before .before .args .color) (c .before .before .before .args .v) (omega arith) (c .before .if1 .left) (sym (c .before .before .has .ensures) ∙ c .if4 .taken)) _ _
+returns-4 c = none-wrote _ (unsolved-open (c .before .before .before .args .mask) _ _ (omega arith) (c .before .if1 .left) (sym (c .before .before .has .ensures) ∙ c .if4 .taken)) _ _
 
 no-requires-2 : tie.Need-no-requires-2
 no-requires-2 c κs = search needs
 
 put-one-requires-3 : tie.Need-put-one-requires-3
-put-one-requires-3 c κs = unit-room _ _ (unsolved-excluded (c .before .before .before .before .before .args .mask) (c .before .before .before .before .before .args .color) (c .before .before .before .before .before .args .v) (omega arith) (c .before .before .before .if1 .left) (sym (c .before .before .before .before .has .ensures) ∙ c .before .before .if4 .left)) _ _ (c .before .before .before .before .before .pre .1)
+put-one-requires-3 c κs = unit-room _ _ (unsolved-excluded (c .before .before .before .before .before .args .mask) _ _ (omega arith) (c .before .before .before .if1 .left) (sym (c .before .before .before .before .has .ensures) ∙ c .before .before .if4 .left)) _ _ (c .before .before .before .before .before .pre .1)
 
 same-length-3 : tie.Need-same-length-3
 same-length-3 c = search needs
 
 returns-5 : tie.Need-returns-5
-returns-5 c = unit-wrote _ _ (unsolved-excluded (c .before .before .before .before .before .before .before .args .mask) (c .before .before .before .before .before .before .before .args .color) (c .before .before .before .before .before .before .before .args .v) (omega arith) (c .before .before .before .before .before .if1 .left) (sym (c .before .before .before .before .before .before .has .ensures) ∙ c .before .before .before .before .if4 .left)) (word-is (c .before .before .before .no2 .result) (c .before .before .before .no2 .ok) ∙ c .before .before .before .no2 .ensures) (c .before .put-one3 .ensures)
+returns-5 c = unit-wrote _ _ (unsolved-excluded (c .before .before .before .before .before .before .before .args .mask) _ _ (omega arith) (c .before .before .before .before .before .if1 .left) (sym (c .before .before .before .before .before .before .has .ensures) ∙ c .before .before .before .before .if4 .left)) (word-is (c .before .before .before .no2 .result) (c .before .before .before .no2 .ok) ∙ c .before .before .before .no2 .ensures) (c .before .put-one3 .ensures)
 
 pub precomputed-color-spec : {M : Type 1} → statement M
 precomputed-color-spec =

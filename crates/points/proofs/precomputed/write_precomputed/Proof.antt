@@ -5,9 +5,8 @@ use native.Mathlib.Omega.{arith}
 use lib.IntN.{pos}
 use lib.ListN.{length-set}
 use Rattle.literals.proofs.Words.{word-is}
-use Rattle.boards.proofs.Boards.{masks-within, masks-part}
 use Rattle.cells.proofs.Counted.{count-room, clauses-room, section-wrote}
-use Rattle.points.proofs.PointCells.{rows-are, masks-variables}
+use Rattle.points.proofs.PointCells.{cells-within, rows-are, masks-variables}
 use borrow.Author.Needs.{needs}
 use Rattle.points.proofs.precomputed.write_precomputed.Statement.{statement}
 use Rattle.points.proofs.precomputed.write_precomputed.Tie as tie
@@ -20,31 +19,31 @@ number-requires : tie.Need-number-requires
 number-requires c κs = search needs
 
 slice-set-from-out : tie.Need-slice-set-from-out
-slice-set-from-out c = count-room (precomputedCells (puzzle (c .before .before .before .args .words .now))) (c .before .before .before .args .out .now) (c .before .before .before .pre .1 .1)
+slice-set-from-out c = count-room _ _ (c .before .before .before .pre .1 .1)
 
 add-precomputed-cells : tie.Need-add-precomputed-cells
-add-precomputed-cells c = omega (arith, masks-within (c .before .before .before .args .words .now) (c .before .before .before .pre .0 .0) (c .before .before .before .pre .0 .2 .cells-is))
+add-precomputed-cells c = omega (arith, cells-within (c .before .before .before .pre .0))
 
 mul-precomputed-cells : tie.Need-mul-precomputed-cells
-mul-precomputed-cells c = omega (arith, masks-within (c .before .before .before .args .words .now) (c .before .before .before .pre .0 .0) (c .before .before .before .pre .0 .2 .cells-is))
+mul-precomputed-cells c = omega (arith, cells-within (c .before .before .before .pre .0))
 
 sub-precomputed-cells : tie.Need-sub-precomputed-cells
-sub-precomputed-cells c = omega (arith, masks-within (c .before .before .before .args .words .now) (c .before .before .before .pre .0 .0) (c .before .before .before .pre .0 .2 .cells-is))
+sub-precomputed-cells c = omega (arith, cells-within (c .before .before .before .pre .0))
 
 part-precomputed-cells-start : tie.Need-part-precomputed-cells-start
-part-precomputed-cells-start c = omega (arith, masks-within (c .before .before .before .args .words .now) (c .before .before .before .pre .0 .0) (c .before .before .before .pre .0 .2 .cells-is))
+part-precomputed-cells-start c = omega (arith, cells-within (c .before .before .before .pre .0))
 
 part-precomputed-cells-end : tie.Need-part-precomputed-cells-end
 part-precomputed-cells-end c = search needs
 
 precomputed-cells-requires : tie.Need-precomputed-cells-requires
-precomputed-cells-requires c κs = (masks-variables (c .before .before .before .before .before .pre .0 .1) (c .before .before .before .before .before .pre .0 .2) (c .before .before .before .before .before .pre .0 .3) (masks-part (c .before .before .before .before .before .args .words .now) (c .before .before .before .before .before .pre .0 .0) (c .before .before .before .before .before .pre .0 .2 .cells-is)), rw (← rows-are (c .before .before .before .before .before .pre .0 .1) (c .before .before .before .before .before .pre .0 .2) (c .before .before .before .before .before .pre .0 .3) (masks-part (c .before .before .before .before .before .args .words .now) (c .before .before .before .before .before .pre .0 .0) (c .before .before .before .before .before .pre .0 .2 .cells-is))) (clauses-room (precomputedCells (puzzle (c .before .before .before .before .before .args .words .now))) (c .before .before .before .before .before .args .out .now) (c .before .before .before .before .before .pre .1 .1) _))
+precomputed-cells-requires c κs = (masks-variables (c .before .before .before .before .before .pre .0), rw (← rows-are (c .before .before .before .before .before .pre .0)) (clauses-room _ (c .before .before .before .before .before .args .out .now) (c .before .before .before .before .before .pre .1 .1) _))
 
 same-length : tie.Need-same-length
 same-length c = c .before .precomputed-cells .kept .1 .1 .1 .0 ∙ simp length-set
 
 returns : tie.Need-returns
-returns c = section-wrote (precomputedCells (puzzle (c .before .before .before .before .before .before .before .args .words .now))) (c .before .before .before .before .before .before .before .args .out .now) (c .before .before .before .before .before .before .before .pre .1 .1) _ (word-is (c .before .before .before .before .number .result) (c .before .before .before .before .number .ok) ∙ c .before .before .before .before .number .ensures ∙ ap pos (c .before .before .before .before .before .before .before .pre .1 .0 .0)) (rw (rows-are (c .before .before .before .before .before .before .before .pre .0 .1) (c .before .before .before .before .before .before .before .pre .0 .2) (c .before .before .before .before .before .before .before .pre .0 .3) (masks-part (c .before .before .before .before .before .before .before .args .words .now) (c .before .before .before .before .before .before .before .pre .0 .0) (c .before .before .before .before .before .before .before .pre .0 .2 .cells-is))) (c .before .precomputed-cells .ensures))
+returns c = section-wrote _ _ (c .before .before .before .before .before .before .before .pre .1 .1) _ (word-is (c .before .before .before .before .number .result) (c .before .before .before .before .number .ok) ∙ c .before .before .before .before .number .ensures ∙ ap pos (c .before .before .before .before .before .before .before .pre .1 .0 .0)) (rw (rows-are (c .before .before .before .before .before .before .before .pre .0)) (c .before .precomputed-cells .ensures))
 
 pub write-precomputed-spec : {M : Type 1} → statement M
 write-precomputed-spec =
