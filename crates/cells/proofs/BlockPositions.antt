@@ -1,21 +1,18 @@
 -- The positions that cover a cell, as the loops find them: variables, and of a block no more than its size.
-use mathlib.Core.Path.{_≡_, refl, sym, ap, _∙_}
-use mathlib.Core.Bool.{Bool, true, false, cond, _&&_}
+use mathlib.Core.Path.{_≡_, refl}
+use mathlib.Core.Bool.{Bool, true, false, _&&_}
 use mathlib.Core.List.{List, [], _∷_, _++_}
-use Prim.Native.Nat.{ℕ, zero, suc, _+_, _-_, _*_, _≤_, _<_}
+use Prim.Native.Nat.{ℕ, zero, suc, _+_, _-_, _≤_, _<_}
 use native.Mathlib.Omega.{arith}
-use native.Mathlib.Decide.{decLt}
-use lib.Dec.{eqb, leb, ltb}
-use lib.ListN.{length, getD, set, length-append, List·getD-append}
-use lib.Seq.{getD-append-add}
+use lib.Dec.{leb, ltb}
+use lib.ListN.{length, set, length-append}
 use borrow.Author.Tests.{ltb-true, leb-true, lt-ltb, le-ltb, le-leb, lt-leb}
-use Rattle.lists.specs.Each.{each, when, sum}
+use Rattle.lists.specs.Each.{each, when}
 use Rattle.lists.specs.Wrote.{Wrote}
 use Rattle.lists.proofs.Emitting.{Emitting, emit-first, emit-room, emit-next, emit-done}
 use Rattle.lists.proofs.Writing.{wrote-none, wrote-store}
 use Rattle.lists.proofs.Tests.{both}
-use Rattle.literals.specs.Literals.{IsVariable, largest}
-use Rattle.cells.specs.Found.{coveringBlock, AreVariables}
+use Rattle.cells.specs.Found.{coveringBlock}
 
 -- ---- of one block
 

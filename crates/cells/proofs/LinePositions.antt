@@ -1,17 +1,16 @@
 -- The loop over a line's blocks that finds the positions of a colour that cover a cell.
-use mathlib.Core.Path.{_≡_, sym, ap, _∙_}
+use mathlib.Core.Path.{_≡_, ap}
 use mathlib.Core.List.{List}
 use Prim.Native.Nat.{ℕ, _+_, _-_, _*_, _/_, _≤_, _<_}
 use native.Mathlib.Omega.{arith}
 use lib.ListN.{length, getD}
-use lib.Dec.{eqb}
 use borrow.Author.Tests.{eq-eqb, ne-eqb}
 use Rattle.lists.specs.Wrote.{Wrote}
 use Rattle.lists.proofs.Emitting.{Emitting, emit-first, emit-room, emit-next, emit-done}
 use Rattle.lists.proofs.Writing.{wrote-none}
 use Rattle.literals.specs.Literals.{largest}
 use Rattle.lines.specs.Arrangement.{at}
-use Rattle.numbering.specs.Variables.{many, firstOf}
+use Rattle.numbering.specs.Variables.{many}
 use Rattle.numbering.specs.Tables.{lineOf, Sound}
 use Rattle.numbering.proofs.SoundLines.{sound-some, sound-most, sound-within, of-many, of-first, of-positions, of-start, of-size, of-color}
 use Rattle.cells.specs.Cells.{covering}

@@ -1,7 +1,7 @@
 -- What a rule says of a cell variable and the positions that were found, as its loops write it.
 use mathlib.Core.Path.{_≡_, sym, ap, _∙_}
 use mathlib.Core.List.{List, [], _∷_, _++_, map}
-use Prim.Native.Nat.{ℕ, zero, suc, _+_, _≤_, _<_}
+use Prim.Native.Nat.{ℕ, _+_, _≤_, _<_}
 use native.Mathlib.Omega.{arith}
 use lib.IntN.{ℤ, pos}
 use lib.ListN.{length, getD, set, length-map, length-append, length-set, List·getD-map}
@@ -12,7 +12,7 @@ use Rattle.lists.proofs.Eaches.{length-tab, getD-tab}
 use Rattle.lists.proofs.Emitting.{Emitting, emit-first, emit-done}
 use Rattle.lists.proofs.Writing.{wrote-then, wrote-store, wrote-after, wrote-kept}
 use Rattle.literals.specs.Literals.{positive, negative}
-use Rattle.sections.specs.Sections.{Clause, clauseWords, clausesWords}
+use Rattle.sections.specs.Sections.{clauseWords, clausesWords}
 use Rattle.sections.proofs.ClauseLists.{clauses-one, say-first, say-done}
 use Rattle.cells.specs.declared.rule.Rule.the-variants.{Color, Space}
 use Rattle.cells.specs.Cells.{ruled}

@@ -1,5 +1,5 @@
 -- The cells of families 9 and 10 in their order, by the numbers of the board.
-use mathlib.Core.Path.{_≡_, sym, ap, _∙_}
+use mathlib.Core.Path.{_≡_, sym, _∙_}
 use mathlib.Core.List.{List}
 use Prim.Native.Nat.{ℕ, zero, suc, _+_, _-_, _*_, _≤_, _<_}
 use native.Mathlib.Omega.{arith}
@@ -10,9 +10,8 @@ use Rattle.lists.specs.Each.{each}
 use Rattle.lists.specs.Wrote.{Wrote}
 use Rattle.lists.proofs.Eaches.{each-plus, each-same}
 use Rattle.lists.proofs.Emitting.{Emitting}
-use Rattle.lists.proofs.Parts.{part-within}
-use Rattle.literals.specs.Literals.{IsVariable, largest}
-use Rattle.sections.specs.Sections.{Clause, clausesWords, atMostOne}
+use Rattle.literals.specs.Literals.{largest}
+use Rattle.sections.specs.Sections.{clausesWords, atMostOne}
 use Rattle.sections.proofs.ClauseLists.{say-first, say-done}
 use Rattle.puzzles.specs.Puzzle.{Puzzle, width, height, lines}
 use Rattle.puzzles.specs.Checks.{puzzle}

@@ -61,13 +61,7 @@ fn precomputed_cell(mask: u32, palette: &[u32], v: usize, out: &mut [i32], at: u
 }
 
 // All cells, whose variables begin at v.
-fn precomputed_cells(
-    masks: &[u32],
-    palette: &[u32],
-    v: usize,
-    out: &mut [i32],
-    at: usize,
-) -> usize
+fn precomputed_cells(masks: &[u32], palette: &[u32], v: usize, out: &mut [i32], at: usize) -> usize
     requires { ⌜ (0 < v) × (v + length (now masks) * length (now palette) ≤ largest + 1) ⌝ }
     requires { ⌜ at + length (clausesWords (ofMasks (now palette) (now masks) v)) ≤ length (now out) ⌝ }
     ensures { λ r. ⌜ Wrote (clausesWords (ofMasks (now (palette .entry)) (now (masks .entry)) v)) (now (out .entry)) at (now (out .exit)) r ⌝ }
