@@ -1,1 +1,4 @@
+pub mod Asked
 pub mod Cells
+pub mod Found
+pub mod Given

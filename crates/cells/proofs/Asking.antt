@@ -1,0 +1,82 @@
+-- A line that is asked: its parts, and what was found in it.
+use mathlib.Core.Path.{_≡_, sym, ap}
+use mathlib.Core.List.{List, _++_}
+use Prim.Native.Nat.{ℕ, _+_, _-_, _*_, _≤_, _<_}
+use native.Mathlib.Omega.{arith}
+use lib.ListN.{length, take, drop, getD, length-append, length-take, length-drop}
+use lib.IntN.{ℤ}
+use lib.Seq.{length-take-le}
+use Rattle.lists.specs.Wrote.{Wrote}
+use Rattle.lists.proofs.Writing.{wrote-there, wrote-kept, wrote-then}
+use Rattle.literals.specs.Literals.{IsVariable}
+use Rattle.sections.specs.Sections.{Clause, clausesWords}
+use Rattle.sections.proofs.ClauseLists.{clauses-append}
+use Rattle.puzzles.specs.Puzzle.{lines}
+use Rattle.puzzles.specs.Checks.{puzzle}
+use Rattle.numbering.specs.Variables.{lineAt}
+use Rattle.numbering.specs.Tables.{Ready, lineOf, Sound}
+use Rattle.numbering.proofs.Parts.{ready-sound, ready-low, ready-within, ready-line}
+use Rattle.cells.specs.declared.rule.Rule.{Rule}
+use Rattle.cells.specs.Cells.{covering, ruled}
+use Rattle.cells.specs.Found.{AreVariables}
+use Rattle.cells.proofs.LongestClause.{covering-most, covering-variables}
+
+-- the clue of line l stands in the words from `from` up to `end`
+pub record Located (ws table : List ℕ) (l from end : ℕ) : Type 0 where
+  pub ready : Ready ws table
+  pub below : l < lines (puzzle ws)
+  pub from-is : from ≡ getD table (68 * l) 0
+  pub end-is : end ≡ from + 1 + 2 * getD ws from 0
+
+-- the line's part of the table and its clue
+module _ {ws table : List ℕ} {l from end : ℕ} (A : Located ws table l from end) where
+  pub clue-within : end ≤ length ws
+  clue-within = omega (arith, ready-within ws table (A .ready) l (A .below) (A .from-is), A .end-is)
+
+  S : Sound (lineAt (puzzle ws) l)
+  S = ready-sound ws table (A .ready) l (A .below)
+
+  line-is : lineOf (take (68 * l + 68 - 68 * l) (drop (68 * l) table)) (take (end - (from + 1)) (drop (from + 1) ws)) ≡ lineAt (puzzle ws) l
+  line-is = ready-line ws table (A .ready) l (A .below) (A .from-is) (A .end-is)
+
+  pub part-sound : Sound (lineOf (take (68 * l + 68 - 68 * l) (drop (68 * l) table)) (take (end - (from + 1)) (drop (from + 1) ws)))
+  part-sound = rw line-is S
+
+  pub part-long : 68 ≤ length (take (68 * l + 68 - 68 * l) (drop (68 * l) table))
+  part-long = rw (length-take, length-drop) (omega (arith, ready-low ws table (A .ready) l (A .below), A .ready .long))
+
+  -- what stands in front of the places for what is found
+  module _ (c t : ℕ) {found found′ : List ℕ} {n : ℕ} (w : Wrote (covering (lineOf (take (68 * l + 68 - 68 * l) (drop (68 * l) table)) (take (end - (from + 1)) (drop (from + 1) ws))) c t) found 0 found′ n) where
+    found-in : Wrote (covering (lineAt (puzzle ws) l) c t) found 0 found′ n
+    found-in = rw line-is at w
+
+    front-few : n ≤ 64
+    front-few = omega (arith, found-in .next-is, covering-most S c t)
+
+    pub front-within : 64 ≤ length found → length found′ ≡ length found → n ≤ length found′
+    front-within h e = omega (arith, front-few)
+
+    pub front-length : 64 ≤ length found → length found′ ≡ length found → n ≡ length (take n found′)
+    front-length h e = sym (length-take-le n found′ (front-within h e))
+
+    front-is : take n found′ ≡ covering (lineAt (puzzle ws) l) c t
+    front-is = let e : n ≡ length (covering (lineAt (puzzle ws) l) c t) = omega (arith, found-in .next-is) in rw e (wrote-there (omega arith) found-in)
+
+    pub front-asked : (rule : Rule) (v at : ℕ) (out : List ℤ) → IsVariable v → at + length (clausesWords (ruled rule v (covering (lineAt (puzzle ws) l) c t))) ≤ length out
+        → (AreVariables (take n found′) × IsVariable v) × ((length (take n found′) ≤ 64) × (at + length (clausesWords (ruled rule v (take n found′))) ≤ length out))
+    front-asked rule v at out a r = rw front-is ((covering-variables S c t, a), (covering-most S c t, r))
+
+    pub front-wrote : (rule : Rule) (v : ℕ) {at to : ℕ} {out out′ : List ℤ} → Wrote (clausesWords (ruled rule v (take n found′))) out at out′ to → Wrote (clausesWords (ruled rule v (covering (lineAt (puzzle ws) l) c t))) out at out′ to
+    front-wrote rule v u = rw front-is at u
+
+-- two lists of clauses, one after the other
+module _ (cs ds : List Clause) (out : List ℤ) (at : ℕ) (h : at + length (clausesWords (cs ++ ds)) ≤ length out) where
+  pub both-first : at + length (clausesWords cs) ≤ length out
+  both-first = omega (arith, ap length (clauses-append cs ds), length-append (clausesWords cs) (clausesWords ds))
+
+  module _ {out₁ : List ℤ} {to : ℕ} (w : Wrote (clausesWords cs) out at out₁ to) where
+    pub both-second : to + length (clausesWords ds) ≤ length out₁
+    both-second = omega (arith, ap length (clauses-append cs ds), length-append (clausesWords cs) (clausesWords ds), wrote-kept both-first w, w .next-is)
+
+    pub both-wrote : {out₂ : List ℤ} {to₂ : ℕ} → Wrote (clausesWords ds) out₁ to out₂ to₂ → Wrote (clausesWords (cs ++ ds)) out at out₂ to₂
+    both-wrote u = rw (clauses-append cs ds) (wrote-then (omega arith) w u)
