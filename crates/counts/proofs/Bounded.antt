@@ -77,6 +77,13 @@ most Once = 133120
 most Overlap = 4193280
 most Space = 4160
 
+-- every count of a line is small
+pub most-most : (m : Measure) → most m ≤ 4193280
+most-most Blocks = omega arith
+most-most Once = omega arith
+most-most Overlap = omega arith
+most-most Space = omega arith
+
 pub measured-most : (m : Measure) {L : Line} → Sound L → measured m L ≤ most m
 unfolding measured
 measured-most Blocks S = omega (arith, sound-shared S, sound-some S)

@@ -83,12 +83,5 @@ ready-few ws table R = omega (arith, R .good .width-most, R .good .height-most)
 pub lines-first : (ws table : List ℕ) → Ready ws table → (m : Measure) (l n : ℕ) → l + n ≤ lines (puzzle ws) → Summing n (most m) (λ k. measured m (lineAt (puzzle ws) (l + k))) 0 0
 lines-first ws table R m l n h = summing-first n (most m) _ (λ k i. measured-most m (line-sound (puzzle ws) (R .good) (l + k) (omega arith)))
 
--- every count of a line is small
-pub most-most : (m : Measure) → most m ≤ 4193280
-most-most Blocks = omega arith
-most-most Once = omega arith
-most-most Overlap = omega arith
-most-most Space = omega arith
-
 pub units-first : (K : ℕ) (masks : List ℕ) → Summing (length masks) 31 (λ i. unitsBy K (getD masks i 0)) 0 0
 units-first K masks = summing-first (length masks) 31 _ (λ i _. units-most K (getD masks i 0))

@@ -4,7 +4,7 @@ use mathlib.Core.Bool.{false}
 use mathlib.Core.List.{List, [], _∷_}
 use Prim.Native.Nat.{ℕ, _+_, _-_, _*_, _/_, _≤_, _<_}
 use native.Mathlib.Omega.{arith}
-use native.Mathlib.Nat.{zero-add, mul-le-mul-right}
+use native.Mathlib.Nat.{zero-add, mul-le-mul-right, mul-le-mul-left}
 use lib.Count.{ones}
 use lib.ListN.{length, getD, length-append}
 use Rattle.lists.specs.Each.{sum}
@@ -35,7 +35,7 @@ use Rattle.counts.proofs.Placed.{measure, lines-length, lines-once, lin
 use Rattle.counts.proofs.Covered.{cells-space}
 use Rattle.counts.proofs.Colored.{cells-color, cells-point, point-twos, space-twos, color-literals}
 use Rattle.counts.proofs.UnitClauses.{hues-ones, hues-some, cells-units, units-ones}
-use Rattle.counts.proofs.Bounded.{most, lines-most, unit-most, point-most}
+use Rattle.counts.proofs.Bounded.{most, most-most, lines-most, unit-most, point-most}
 
 -- the words of sections: their counts, their clauses' counts and their literals
 clausesOf : List (List Clause) → ℕ
@@ -96,6 +96,10 @@ module _ (z : Puzzle) where
 
     side : (rule : Rule) (l n : ℕ) → l + n ≤ lines z → length (ofLines z rule l n) ≤ n * most (measure rule)
     side rule l n h = omega (arith, lines-length z G rule l n h, lines-most z G (measure rule) l n h)
+
+    -- of up to 64 lines
+    pub rule-small : (rule : Rule) (l n : ℕ) → l + n ≤ lines z → n ≤ 64 → length (ofLines z rule l n) < 2147483648
+    rule-small rule l n h few = omega (arith, side rule l n h, mul-le-mul-left n (most-most (measure rule)))
 
     pub counts-small : Small
     counts-small = record {

@@ -4,9 +4,9 @@ use Prim.Native.Nat.{_+_, _-_}
 use Rattle.puzzles.specs.Checks.{puzzle}
 use Rattle.numbering.specs.Variables.{lineAt}
 use Rattle.counts.specs.Formulas.{measured, overLines}
-use Rattle.counts.proofs.Bounded.{most}
+use Rattle.counts.proofs.Bounded.{most, most-most}
 use Rattle.counts.proofs.Summing.{Summing, summing-next, summing-most, summing-done}
-use Rattle.counts.proofs.Countings.{lines-first, most-most, ready-few}
+use Rattle.counts.proofs.Countings.{lines-first, ready-few}
 use borrow.Author.Needs.{needs}
 use Rattle.counts.proofs.line.count_lines.Statement.{statement}
 use Rattle.counts.proofs.line.count_lines.Tie as tie

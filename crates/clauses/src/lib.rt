@@ -1,0 +1,3 @@
+// The whole clause buffer of a puzzle.
+pub mod buffer;
+pub mod call;
