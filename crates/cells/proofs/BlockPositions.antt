@@ -1,4 +1,4 @@
--- The positions that cover a cell, as the loops find them: variables, and of a block no more than its size.
+-- The positions of a block that cover a cell: no more than its size, and the loop that finds them.
 use mathlib.Core.Path.{_≡_, refl}
 use mathlib.Core.Bool.{Bool, true, false, _&&_}
 use mathlib.Core.List.{List, [], _∷_, _++_}
@@ -13,8 +13,6 @@ use Rattle.lists.proofs.Emitting.{Emitting, emit-first, emit-room, emit-next, e
 use Rattle.lists.proofs.Writing.{wrote-none, wrote-store}
 use Rattle.lists.proofs.Tests.{both}
 use Rattle.cells.specs.Found.{coveringBlock}
-
--- ---- of one block
 
 -- the test of position i
 abbrev pub reaching : ℕ → ℕ → ℕ → ℕ → Bool

@@ -9,7 +9,6 @@ use Rattle.lists.specs.Wrote.{Wrote}
 use Rattle.lists.proofs.Emitting.{Emitting, emit-first, emit-room, emit-next, emit-done}
 use Rattle.lists.proofs.Writing.{wrote-none}
 use Rattle.literals.specs.Literals.{largest}
-use Rattle.lines.specs.Arrangement.{at}
 use Rattle.numbering.specs.Variables.{many}
 use Rattle.numbering.specs.Tables.{lineOf, Sound}
 use Rattle.numbering.proofs.SoundLines.{sound-some, sound-most, sound-within, of-many, of-first, of-positions, of-start, of-size, of-color}

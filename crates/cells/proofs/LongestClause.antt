@@ -50,7 +50,7 @@ unfolding coveringBlock
 block-variables v p start size t a b =
     variables-each p _ (λ i h. variables-when (reaching start size t i) _ (variables-one (v + i) (record { least = omega arith; most = omega arith })))
 
--- ---- of a line
+-- ---- block by block
 
 abbrev pub ofBlock : Line → ℕ → ℕ → ℕ → List ℕ
 ofBlock L c t b = when (eqb (at (L .runs) b .color) c) (coveringBlock (firstOf L b) (L .positions) (at (L .runs) b .start) (at (L .runs) b .size) t)

@@ -58,7 +58,7 @@ module _ (us : List ℕ) where
 
     -- ---- 8
 
-    pub space-each : ruled Space v us ≡ each (length us) (λ k. (negative (getD us k 0) ∷ positive v ∷ []) ∷ [])
+    space-each : ruled Space v us ≡ each (length us) (λ k. (negative (getD us k 0) ∷ positive v ∷ []) ∷ [])
     unfolding ruled
     space-each = map-each (λ u. negative u ∷ positive v ∷ []) us
 

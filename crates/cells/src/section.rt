@@ -75,8 +75,9 @@ fn color_clauses(
     requires { ⌜ at + length (clausesWords (asked (puzzle (now words)) ask x y ++ asked (puzzle (now words)) ask (width + y) x)) ≤ length (now out) ⌝ }
     ensures { λ r. ⌜ Wrote (clausesWords (asked (puzzle (now (words .entry))) ask x y ++ asked (puzzle (now (words .entry))) ask (width + y) x)) (now (out .entry)) at (now (out .exit)) r ⌝ }
 {
+    let row = width + y;
     let to = cover_line(words, table, x, y, ask, found, out, at);
-    cover_line(words, table, width + y, x, ask, found, out, to)
+    cover_line(words, table, row, x, ask, found, out, to)
 }
 
 fn cell_color_clauses(

@@ -1,4 +1,4 @@
--- What a mask says of a colour: a unit clause or nothing, and of all cells one after another.
+-- What a mask says of a colour: a unit clause, or nothing.
 use mathlib.Core.Path.{_≡_}
 use mathlib.Core.Bool.{true, false}
 use mathlib.Core.List.{List, [], _∷_}
