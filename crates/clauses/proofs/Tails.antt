@@ -1,5 +1,5 @@
 -- Sections written one after another, each group into the rest of the buffer.
-use mathlib.Core.Path.{_≡_, refl, sym, _∙_}
+use mathlib.Core.Path.{_≡_, refl, sym}
 use mathlib.Core.List.{List, [], _∷_, _++_, append-assoc, append-nil}
 use Prim.Native.Nat.{ℕ, _+_, _-_, _≤_}
 use native.Mathlib.Omega.{arith}
@@ -38,6 +38,9 @@ module _ {all : List (List Clause)} (g rest : List (List Clause)) {out₀ out : 
   pub writing-room : length (sectionsWords g) ≤ length (take (length out - at) (drop at out))
   writing-room = rw (tail-is out at) (omega (arith, writing-within, length-drop at out))
 
+  pub writing-front : at ≡ 0 → length (sectionsWords g) ≤ length out
+  writing-front e = omega (arith, writing-within)
+
   pub writing-next : {tail : List ℤ} {used : ℕ} → Wrote (sectionsWords g) (take (length out - at) (drop at out)) 0 tail used
       → Writing all rest out₀ (putMid at (length out - at) out tail) (at + used)
   writing-next w = record { fill = fill-next (W .fill) (sectionsWords g) (sectionsWords rest) (sections-append g rest) (wrote-tail w) }
@@ -60,6 +63,9 @@ module _ {all rest : List (List Clause)} {out₀ out : List ℤ} {at : ℕ} (W :
 
   pub writing-place : at ≤ length out
   writing-place = omega (arith, fill-room (W .fill) [] (sectionsWords rest) refl)
+
+  pub writing-most : at ≤ length out₀
+  writing-most = omega (arith, writing-place, writing-kept)
 
 pub writing-done : {all : List (List Clause)} {out₀ out : List ℤ} {at : ℕ} → Writing all [] out₀ out at → Wrote (sectionsWords all) out₀ 0 out at
 unfolding sectionsWords

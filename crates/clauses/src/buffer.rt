@@ -2,6 +2,7 @@
 use boards::board::Board;
 use cells::rule::Rule as Cover;
 use cells::section::write_cells;
+use counts::total::Cells;
 use counts::total::Counts;
 use numbering::palette;
 use placement::rule::Rule;
@@ -19,7 +20,7 @@ ghost use Rattle.numbering.specs.Tables.{Ready};
 ghost use Rattle.placement.specs.Placement.{ofColumns, ofRows};
 ghost use Rattle.cells.specs.Given.{Given};
 ghost use Rattle.counts.specs.Families.{buffer};
-ghost use Rattle.counts.specs.Counted.{Counted};
+ghost use Rattle.counts.specs.Counted.{CellsCounted, Counted};
 ghost use Rattle.clauses.specs.Groups.{both, lineSections, cellSections};
 
 // What a rule says of the columns, then of the rows.
@@ -58,9 +59,33 @@ fn write_line_sections(
 {
     let x = counts.columns;
     let y = counts.rows;
-    let mut at = write_both(Rule::Positions, words, table, board, x.positions, y.positions, out);
-    at += write_both(Rule::Once, words, table, board, x.once, y.once, &mut out[at..]);
-    at += write_both(Rule::Overlap, words, table, board, x.overlap, y.overlap, &mut out[at..]);
+    let mut at = write_both(
+        Rule::Positions,
+        words,
+        table,
+        board,
+        x.positions,
+        y.positions,
+        out,
+    );
+    at += write_both(
+        Rule::Once,
+        words,
+        table,
+        board,
+        x.once,
+        y.once,
+        &mut out[at..],
+    );
+    at += write_both(
+        Rule::Overlap,
+        words,
+        table,
+        board,
+        x.overlap,
+        y.overlap,
+        &mut out[at..],
+    );
     at
 }
 
@@ -70,19 +95,26 @@ fn write_cell_sections(
     table: &[u32],
     board: Board,
     colors: &[u32],
-    counts: Counts,
+    counts: Cells,
     out: &mut [i32],
 ) -> usize
     requires { ⌜ Given (now words) (now table) board (now colors) ⌝ }
-    requires { ⌜ Counted (puzzle (now words)) counts ⌝ }
+    requires { ⌜ CellsCounted (puzzle (now words)) counts ⌝ }
     requires { ⌜ length (sectionsWords (cellSections (puzzle (now words)))) ≤ length (now out) ⌝ }
     ensures { λ r. ⌜ Wrote (sectionsWords (cellSections (puzzle (now (words .entry))))) (now (out .entry)) 0 (now (out .exit)) r ⌝ }
 {
-    let c = counts.cells;
-    let mut at = write_cells(Cover::Color, words, table, board, colors, c.color, out);
-    at += write_cells(Cover::Space, words, table, board, colors, c.space, &mut out[at..]);
-    at += write_points(board, colors.len(), c.point, &mut out[at..]);
-    at += write_precomputed(words, board, colors, c.units, &mut out[at..]);
+    let mut at = write_cells(Cover::Color, words, table, board, colors, counts.color, out);
+    at += write_cells(
+        Cover::Space,
+        words,
+        table,
+        board,
+        colors,
+        counts.space,
+        &mut out[at..],
+    );
+    at += write_points(board, colors.len(), counts.point, &mut out[at..]);
+    at += write_precomputed(words, board, colors, counts.units, &mut out[at..]);
     at
 }
 
@@ -101,5 +133,13 @@ pub fn write_sections(
     let mut colors = [0u32; 31];
     let k = palette(board.colors, &mut colors);
     let at = write_line_sections(words, table, board, counts, out);
-    at + write_cell_sections(words, table, board, &colors[..k], counts, &mut out[at..])
+    at
+        + write_cell_sections(
+            words,
+            table,
+            board,
+            &colors[..k],
+            counts.cells,
+            &mut out[at..],
+        )
 }

@@ -1,8 +1,8 @@
 // The call `clauses`.
 use crate::buffer::write_sections;
-use boards::board::read_puzzle;
 use boards::board::Board;
 use boards::board::Reading;
+use boards::board::read_puzzle;
 use counts::total::count_all;
 use refusals::Answer;
 use refusals::Refusal;

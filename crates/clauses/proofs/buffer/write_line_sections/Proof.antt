@@ -1,71 +1,30 @@
+use native.Mathlib.Omega.{arith}
+use mathlib.Core.Path.{refl}
+use mathlib.Core.List.{[], _++_}
+use Rattle.placement.specs.declared.rule.Rule.the-variants.{Positions, Once, Overlap}
+use Rattle.puzzles.specs.Checks.{puzzle}
+use Rattle.clauses.specs.Groups.{both, lineSections}
+use Rattle.clauses.proofs.Tails.{writing-first, writing-front, writing-room, writing-next, writing-whole, writing-kept, writing-place, writing-done}
 use borrow.Author.Needs.{needs}
 use Rattle.clauses.proofs.buffer.write_line_sections.Statement.{statement}
 use Rattle.clauses.proofs.buffer.write_line_sections.Tie as tie
-use Rattle.clauses.proofs.buffer.write_line_sections.Reads as reads
-use Rattle.clauses.proofs.buffer.write_line_sections.Lts as lts
-use Rattle.clauses.proofs.buffer.write_both.Reads as write-both-reads
-
-write-both-requires : tie.Need-write-both-requires
-write-both-requires c κs = search needs
-
-mul-write-both : tie.Need-mul-write-both
-mul-write-both c = search needs
-
-sub-write-both : tie.Need-sub-write-both
-sub-write-both c = search needs
-
-part-write-both-start : tie.Need-part-write-both-start
-part-write-both-start c = search needs
-
-part-write-both-end : tie.Need-part-write-both-end
-part-write-both-end c = search needs
-
-write-both-requires-2 : tie.Need-write-both-requires-2
-write-both-requires-2 c κs = search needs
-
-add-at : tie.Need-add-at
-add-at c = search needs
-
-mul-write-both-2 : tie.Need-mul-write-both-2
-mul-write-both-2 c = search needs
-
-sub-write-both-2 : tie.Need-sub-write-both-2
-sub-write-both-2 c = search needs
-
-part-write-both-start-2 : tie.Need-part-write-both-start-2
-part-write-both-start-2 c = search needs
-
-part-write-both-end-2 : tie.Need-part-write-both-end-2
-part-write-both-end-2 c = search needs
-
-write-both-requires-3 : tie.Need-write-both-requires-3
-write-both-requires-3 c κs = search needs
-
-add-at-2 : tie.Need-add-at-2
-add-at-2 c = search needs
-
-same-length : tie.Need-same-length
-same-length c = search needs
-
-returns : tie.Need-returns
-returns c = search needs
 
 pub write-line-sections-spec : {M : Type 1} → statement M
 write-line-sections-spec =
     tie.close
     (tie.spec
-    write-both-requires
-    mul-write-both
-    sub-write-both
-    part-write-both-start
-    part-write-both-end
-    write-both-requires-2
-    add-at
-    mul-write-both-2
-    sub-write-both-2
-    part-write-both-start-2
-    part-write-both-end-2
-    write-both-requires-3
-    add-at-2
-    same-length
-    returns)
+    (λ c κs. (c .before .before .before .before .before .pre .0, ((c .before .before .before .before .before .pre .1 .0 .columns-are .positions-is, c .before .before .before .before .before .pre .1 .0 .rows-are .positions-is), writing-front (both (puzzle (c .before .before .before .before .before .args .words .now)) Positions) (both (puzzle (c .before .before .before .before .before .args .words .now)) Once ++ both (puzzle (c .before .before .before .before .before .args .words .now)) Overlap) (writing-first (lineSections (puzzle (c .before .before .before .before .before .args .words .now))) (c .before .before .before .before .before .args .out .now) (c .before .before .before .before .before .pre .1 .1)) refl)))
+    (λ c. omega (arith, writing-place (writing-whole (both (puzzle (c .before .before .before .before .before .before .before .args .words .now)) Positions) (both (puzzle (c .before .before .before .before .before .before .before .args .words .now)) Once ++ both (puzzle (c .before .before .before .before .before .before .before .args .words .now)) Overlap) (writing-first (lineSections (puzzle (c .before .before .before .before .before .before .before .args .words .now))) (c .before .before .before .before .before .before .before .args .out .now) (c .before .before .before .before .before .before .before .pre .1 .1)) (c .before .write-both .ensures)), writing-kept (writing-whole (both (puzzle (c .before .before .before .before .before .before .before .args .words .now)) Positions) (both (puzzle (c .before .before .before .before .before .before .before .args .words .now)) Once ++ both (puzzle (c .before .before .before .before .before .before .before .args .words .now)) Overlap) (writing-first (lineSections (puzzle (c .before .before .before .before .before .before .before .args .words .now))) (c .before .before .before .before .before .before .before .args .out .now) (c .before .before .before .before .before .before .before .pre .1 .1)) (c .before .write-both .ensures))))
+    (λ c. omega (arith, writing-place (writing-whole (both (puzzle (c .before .before .before .before .before .before .before .args .words .now)) Positions) (both (puzzle (c .before .before .before .before .before .before .before .args .words .now)) Once ++ both (puzzle (c .before .before .before .before .before .before .before .args .words .now)) Overlap) (writing-first (lineSections (puzzle (c .before .before .before .before .before .before .before .args .words .now))) (c .before .before .before .before .before .before .before .args .out .now) (c .before .before .before .before .before .before .before .pre .1 .1)) (c .before .write-both .ensures)), writing-kept (writing-whole (both (puzzle (c .before .before .before .before .before .before .before .args .words .now)) Positions) (both (puzzle (c .before .before .before .before .before .before .before .args .words .now)) Once ++ both (puzzle (c .before .before .before .before .before .before .before .args .words .now)) Overlap) (writing-first (lineSections (puzzle (c .before .before .before .before .before .before .before .args .words .now))) (c .before .before .before .before .before .before .before .args .out .now) (c .before .before .before .before .before .before .before .pre .1 .1)) (c .before .write-both .ensures))))
+    (λ c. omega (arith, writing-place (writing-whole (both (puzzle (c .before .before .before .before .before .before .before .args .words .now)) Positions) (both (puzzle (c .before .before .before .before .before .before .before .args .words .now)) Once ++ both (puzzle (c .before .before .before .before .before .before .before .args .words .now)) Overlap) (writing-first (lineSections (puzzle (c .before .before .before .before .before .before .before .args .words .now))) (c .before .before .before .before .before .before .before .args .out .now) (c .before .before .before .before .before .before .before .pre .1 .1)) (c .before .write-both .ensures)), writing-kept (writing-whole (both (puzzle (c .before .before .before .before .before .before .before .args .words .now)) Positions) (both (puzzle (c .before .before .before .before .before .before .before .args .words .now)) Once ++ both (puzzle (c .before .before .before .before .before .before .before .args .words .now)) Overlap) (writing-first (lineSections (puzzle (c .before .before .before .before .before .before .before .args .words .now))) (c .before .before .before .before .before .before .before .args .out .now) (c .before .before .before .before .before .before .before .pre .1 .1)) (c .before .write-both .ensures))))
+    (λ c. search needs)
+    (λ c κs. (c .before .before .before .before .before .before .before .before .pre .0, ((c .before .before .before .before .before .before .before .before .pre .1 .0 .columns-are .once-is, c .before .before .before .before .before .before .before .before .pre .1 .0 .rows-are .once-is), writing-room (both (puzzle (c .before .before .before .before .before .before .before .before .args .words .now)) Once) (both (puzzle (c .before .before .before .before .before .before .before .before .args .words .now)) Overlap) (writing-whole (both (puzzle (c .before .before .before .before .before .before .before .before .args .words .now)) Positions) (both (puzzle (c .before .before .before .before .before .before .before .before .args .words .now)) Once ++ both (puzzle (c .before .before .before .before .before .before .before .before .args .words .now)) Overlap) (writing-first (lineSections (puzzle (c .before .before .before .before .before .before .before .before .args .words .now))) (c .before .before .before .before .before .before .before .before .args .out .now) (c .before .before .before .before .before .before .before .before .pre .1 .1)) (c .before .before .write-both .ensures)))))
+    (λ c. omega (arith, writing-place (writing-next (both (puzzle (c .before .before .before .before .before .before .before .before .before .before .args .words .now)) Once) (both (puzzle (c .before .before .before .before .before .before .before .before .before .before .args .words .now)) Overlap) (writing-whole (both (puzzle (c .before .before .before .before .before .before .before .before .before .before .args .words .now)) Positions) (both (puzzle (c .before .before .before .before .before .before .before .before .before .before .args .words .now)) Once ++ both (puzzle (c .before .before .before .before .before .before .before .before .before .before .args .words .now)) Overlap) (writing-first (lineSections (puzzle (c .before .before .before .before .before .before .before .before .before .before .args .words .now))) (c .before .before .before .before .before .before .before .before .before .before .args .out .now) (c .before .before .before .before .before .before .before .before .before .before .pre .1 .1)) (c .before .before .before .before .write-both .ensures)) (c .before .write-both2 .ensures)), writing-kept (writing-next (both (puzzle (c .before .before .before .before .before .before .before .before .before .before .args .words .now)) Once) (both (puzzle (c .before .before .before .before .before .before .before .before .before .before .args .words .now)) Overlap) (writing-whole (both (puzzle (c .before .before .before .before .before .before .before .before .before .before .args .words .now)) Positions) (both (puzzle (c .before .before .before .before .before .before .before .before .before .before .args .words .now)) Once ++ both (puzzle (c .before .before .before .before .before .before .before .before .before .before .args .words .now)) Overlap) (writing-first (lineSections (puzzle (c .before .before .before .before .before .before .before .before .before .before .args .words .now))) (c .before .before .before .before .before .before .before .before .before .before .args .out .now) (c .before .before .before .before .before .before .before .before .before .before .pre .1 .1)) (c .before .before .before .before .write-both .ensures)) (c .before .write-both2 .ensures))))
+    (λ c. omega (arith, writing-place (writing-next (both (puzzle (c .before .before .before .before .before .before .before .before .before .before .args .words .now)) Once) (both (puzzle (c .before .before .before .before .before .before .before .before .before .before .args .words .now)) Overlap) (writing-whole (both (puzzle (c .before .before .before .before .before .before .before .before .before .before .args .words .now)) Positions) (both (puzzle (c .before .before .before .before .before .before .before .before .before .before .args .words .now)) Once ++ both (puzzle (c .before .before .before .before .before .before .before .before .before .before .args .words .now)) Overlap) (writing-first (lineSections (puzzle (c .before .before .before .before .before .before .before .before .before .before .args .words .now))) (c .before .before .before .before .before .before .before .before .before .before .args .out .now) (c .before .before .before .before .before .before .before .before .before .before .pre .1 .1)) (c .before .before .before .before .write-both .ensures)) (c .before .write-both2 .ensures)), writing-kept (writing-next (both (puzzle (c .before .before .before .before .before .before .before .before .before .before .args .words .now)) Once) (both (puzzle (c .before .before .before .before .before .before .before .before .before .before .args .words .now)) Overlap) (writing-whole (both (puzzle (c .before .before .before .before .before .before .before .before .before .before .args .words .now)) Positions) (both (puzzle (c .before .before .before .before .before .before .before .before .before .before .args .words .now)) Once ++ both (puzzle (c .before .before .before .before .before .before .before .before .before .before .args .words .now)) Overlap) (writing-first (lineSections (puzzle (c .before .before .before .before .before .before .before .before .before .before .args .words .now))) (c .before .before .before .before .before .before .before .before .before .before .args .out .now) (c .before .before .before .before .before .before .before .before .before .before .pre .1 .1)) (c .before .before .before .before .write-both .ensures)) (c .before .write-both2 .ensures))))
+    (λ c. omega (arith, writing-place (writing-next (both (puzzle (c .before .before .before .before .before .before .before .before .before .before .args .words .now)) Once) (both (puzzle (c .before .before .before .before .before .before .before .before .before .before .args .words .now)) Overlap) (writing-whole (both (puzzle (c .before .before .before .before .before .before .before .before .before .before .args .words .now)) Positions) (both (puzzle (c .before .before .before .before .before .before .before .before .before .before .args .words .now)) Once ++ both (puzzle (c .before .before .before .before .before .before .before .before .before .before .args .words .now)) Overlap) (writing-first (lineSections (puzzle (c .before .before .before .before .before .before .before .before .before .before .args .words .now))) (c .before .before .before .before .before .before .before .before .before .before .args .out .now) (c .before .before .before .before .before .before .before .before .before .before .pre .1 .1)) (c .before .before .before .before .write-both .ensures)) (c .before .write-both2 .ensures)), writing-kept (writing-next (both (puzzle (c .before .before .before .before .before .before .before .before .before .before .args .words .now)) Once) (both (puzzle (c .before .before .before .before .before .before .before .before .before .before .args .words .now)) Overlap) (writing-whole (both (puzzle (c .before .before .before .before .before .before .before .before .before .before .args .words .now)) Positions) (both (puzzle (c .before .before .before .before .before .before .before .before .before .before .args .words .now)) Once ++ both (puzzle (c .before .before .before .before .before .before .before .before .before .before .args .words .now)) Overlap) (writing-first (lineSections (puzzle (c .before .before .before .before .before .before .before .before .before .before .args .words .now))) (c .before .before .before .before .before .before .before .before .before .before .args .out .now) (c .before .before .before .before .before .before .before .before .before .before .pre .1 .1)) (c .before .before .before .before .write-both .ensures)) (c .before .write-both2 .ensures))))
+    (λ c. omega (arith, writing-place (writing-next (both (puzzle (c .before .before .before .before .before .before .before .before .before .before .args .words .now)) Once) (both (puzzle (c .before .before .before .before .before .before .before .before .before .before .args .words .now)) Overlap) (writing-whole (both (puzzle (c .before .before .before .before .before .before .before .before .before .before .args .words .now)) Positions) (both (puzzle (c .before .before .before .before .before .before .before .before .before .before .args .words .now)) Once ++ both (puzzle (c .before .before .before .before .before .before .before .before .before .before .args .words .now)) Overlap) (writing-first (lineSections (puzzle (c .before .before .before .before .before .before .before .before .before .before .args .words .now))) (c .before .before .before .before .before .before .before .before .before .before .args .out .now) (c .before .before .before .before .before .before .before .before .before .before .pre .1 .1)) (c .before .before .before .before .write-both .ensures)) (c .before .write-both2 .ensures)), writing-kept (writing-next (both (puzzle (c .before .before .before .before .before .before .before .before .before .before .args .words .now)) Once) (both (puzzle (c .before .before .before .before .before .before .before .before .before .before .args .words .now)) Overlap) (writing-whole (both (puzzle (c .before .before .before .before .before .before .before .before .before .before .args .words .now)) Positions) (both (puzzle (c .before .before .before .before .before .before .before .before .before .before .args .words .now)) Once ++ both (puzzle (c .before .before .before .before .before .before .before .before .before .before .args .words .now)) Overlap) (writing-first (lineSections (puzzle (c .before .before .before .before .before .before .before .before .before .before .args .words .now))) (c .before .before .before .before .before .before .before .before .before .before .args .out .now) (c .before .before .before .before .before .before .before .before .before .before .pre .1 .1)) (c .before .before .before .before .write-both .ensures)) (c .before .write-both2 .ensures))))
+    (λ c. search needs)
+    (λ c κs. (c .before .before .before .before .before .before .before .before .before .before .before .pre .0, ((c .before .before .before .before .before .before .before .before .before .before .before .pre .1 .0 .columns-are .overlap-is, c .before .before .before .before .before .before .before .before .before .before .before .pre .1 .0 .rows-are .overlap-is), writing-room (both (puzzle (c .before .before .before .before .before .before .before .before .before .before .before .args .words .now)) Overlap) [] (writing-next (both (puzzle (c .before .before .before .before .before .before .before .before .before .before .before .args .words .now)) Once) (both (puzzle (c .before .before .before .before .before .before .before .before .before .before .before .args .words .now)) Overlap) (writing-whole (both (puzzle (c .before .before .before .before .before .before .before .before .before .before .before .args .words .now)) Positions) (both (puzzle (c .before .before .before .before .before .before .before .before .before .before .before .args .words .now)) Once ++ both (puzzle (c .before .before .before .before .before .before .before .before .before .before .before .args .words .now)) Overlap) (writing-first (lineSections (puzzle (c .before .before .before .before .before .before .before .before .before .before .before .args .words .now))) (c .before .before .before .before .before .before .before .before .before .before .before .args .out .now) (c .before .before .before .before .before .before .before .before .before .before .before .pre .1 .1)) (c .before .before .before .before .before .write-both .ensures)) (c .before .before .write-both2 .ensures)))))
+    (λ c. omega (arith, writing-place (writing-next (both (puzzle (c .before .before .before .before .before .before .before .before .before .before .before .before .before .args .words .now)) Overlap) [] (writing-next (both (puzzle (c .before .before .before .before .before .before .before .before .before .before .before .before .before .args .words .now)) Once) (both (puzzle (c .before .before .before .before .before .before .before .before .before .before .before .before .before .args .words .now)) Overlap) (writing-whole (both (puzzle (c .before .before .before .before .before .before .before .before .before .before .before .before .before .args .words .now)) Positions) (both (puzzle (c .before .before .before .before .before .before .before .before .before .before .before .before .before .args .words .now)) Once ++ both (puzzle (c .before .before .before .before .before .before .before .before .before .before .before .before .before .args .words .now)) Overlap) (writing-first (lineSections (puzzle (c .before .before .before .before .before .before .before .before .before .before .before .before .before .args .words .now))) (c .before .before .before .before .before .before .before .before .before .before .before .before .before .args .out .now) (c .before .before .before .before .before .before .before .before .before .before .before .before .before .pre .1 .1)) (c .before .before .before .before .before .before .before .write-both .ensures)) (c .before .before .before .before .write-both2 .ensures)) (c .before .write-both3 .ensures)), writing-kept (writing-next (both (puzzle (c .before .before .before .before .before .before .before .before .before .before .before .before .before .args .words .now)) Overlap) [] (writing-next (both (puzzle (c .before .before .before .before .before .before .before .before .before .before .before .before .before .args .words .now)) Once) (both (puzzle (c .before .before .before .before .before .before .before .before .before .before .before .before .before .args .words .now)) Overlap) (writing-whole (both (puzzle (c .before .before .before .before .before .before .before .before .before .before .before .before .before .args .words .now)) Positions) (both (puzzle (c .before .before .before .before .before .before .before .before .before .before .before .before .before .args .words .now)) Once ++ both (puzzle (c .before .before .before .before .before .before .before .before .before .before .before .before .before .args .words .now)) Overlap) (writing-first (lineSections (puzzle (c .before .before .before .before .before .before .before .before .before .before .before .before .before .args .words .now))) (c .before .before .before .before .before .before .before .before .before .before .before .before .before .args .out .now) (c .before .before .before .before .before .before .before .before .before .before .before .before .before .pre .1 .1)) (c .before .before .before .before .before .before .before .write-both .ensures)) (c .before .before .before .before .write-both2 .ensures)) (c .before .write-both3 .ensures))))
+    (λ c. writing-kept (writing-next (both (puzzle (c .before .before .before .before .before .before .before .before .before .before .before .before .before .args .words .now)) Overlap) [] (writing-next (both (puzzle (c .before .before .before .before .before .before .before .before .before .before .before .before .before .args .words .now)) Once) (both (puzzle (c .before .before .before .before .before .before .before .before .before .before .before .before .before .args .words .now)) Overlap) (writing-whole (both (puzzle (c .before .before .before .before .before .before .before .before .before .before .before .before .before .args .words .now)) Positions) (both (puzzle (c .before .before .before .before .before .before .before .before .before .before .before .before .before .args .words .now)) Once ++ both (puzzle (c .before .before .before .before .before .before .before .before .before .before .before .before .before .args .words .now)) Overlap) (writing-first (lineSections (puzzle (c .before .before .before .before .before .before .before .before .before .before .before .before .before .args .words .now))) (c .before .before .before .before .before .before .before .before .before .before .before .before .before .args .out .now) (c .before .before .before .before .before .before .before .before .before .before .before .before .before .pre .1 .1)) (c .before .before .before .before .before .before .before .write-both .ensures)) (c .before .before .before .before .write-both2 .ensures)) (c .before .write-both3 .ensures)))
+    (λ c. writing-done (writing-next (both (puzzle (c .before .before .before .before .before .before .before .before .before .before .before .before .before .args .words .now)) Overlap) [] (writing-next (both (puzzle (c .before .before .before .before .before .before .before .before .before .before .before .before .before .args .words .now)) Once) (both (puzzle (c .before .before .before .before .before .before .before .before .before .before .before .before .before .args .words .now)) Overlap) (writing-whole (both (puzzle (c .before .before .before .before .before .before .before .before .before .before .before .before .before .args .words .now)) Positions) (both (puzzle (c .before .before .before .before .before .before .before .before .before .before .before .before .before .args .words .now)) Once ++ both (puzzle (c .before .before .before .before .before .before .before .before .before .before .before .before .before .args .words .now)) Overlap) (writing-first (lineSections (puzzle (c .before .before .before .before .before .before .before .before .before .before .before .before .before .args .words .now))) (c .before .before .before .before .before .before .before .before .before .before .before .before .before .args .out .now) (c .before .before .before .before .before .before .before .before .before .before .before .before .before .pre .1 .1)) (c .before .before .before .before .before .before .before .write-both .ensures)) (c .before .before .before .before .write-both2 .ensures)) (c .before .write-both3 .ensures))))
