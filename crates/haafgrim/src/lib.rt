@@ -4,6 +4,9 @@ ghost use Rattle.refusals.specs.Verdict.{accepted};
 ghost use Rattle.refusals.specs.Outcome.{Outcome};
 ghost use Rattle.bits.specs.Bits.{powers, joined};
 ghost use Rattle.lines.specs.Calls.{lineChecks, lineWords, clueChecks, startsWords, rangesWords};
+ghost use Rattle.puzzles.specs.Checks as C;
+ghost use Rattle.puzzles.specs.Checks.{puzzleChecks};
+ghost use Rattle.counts.specs.Families.{buffer, countsOf};
 ghost use Rattle.grids.specs.Grid.{sizeChecks, gridChecks, transposed, gridWords};
 
 #[no_mangle]
@@ -85,6 +88,24 @@ pub extern "C" fn haafgrim_transpose(
     ensures { λ r. ⌜ Outcome (sizeChecks width height (now (grid .entry))) (transposed width height (now (grid .entry))) (now (out .entry)) r (now (place .exit)) (now (out .exit)) ⌝ }
 {
     let answer = grids::transpose::transpose(width, height, grid, out);
+    *place = answer.place();
+    answer.number()
+}
+
+#[no_mangle]
+pub extern "C" fn haafgrim_clauses(puzzle: &[u32], out: &mut [i32], place: &mut usize) -> u32
+    ensures { λ r. ⌜ Outcome (puzzleChecks (now (puzzle .entry))) (buffer (C.puzzle (now (puzzle .entry)))) (now (out .entry)) r (now (place .exit)) (now (out .exit)) ⌝ }
+{
+    let answer = clauses::call::clauses(puzzle, out);
+    *place = answer.place();
+    answer.number()
+}
+
+#[no_mangle]
+pub extern "C" fn haafgrim_counts(puzzle: &[u32], out: &mut [u64], place: &mut usize) -> u32
+    ensures { λ r. ⌜ Outcome (puzzleChecks (now (puzzle .entry))) (countsOf (C.puzzle (now (puzzle .entry)))) (now (out .entry)) r (now (place .exit)) (now (out .exit)) ⌝ }
+{
+    let answer = counts::call::counts(puzzle, out);
     *place = answer.place();
     answer.number()
 }
