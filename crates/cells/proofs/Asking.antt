@@ -19,7 +19,7 @@ use Rattle.numbering.proofs.Parts.{ready-sound, ready-low, ready-within, ready-
 use Rattle.cells.specs.declared.rule.Rule.{Rule}
 use Rattle.cells.specs.Cells.{covering, ruled}
 use Rattle.cells.specs.Found.{AreVariables}
-use Rattle.cells.proofs.LongestClause.{covering-most, covering-variables}
+use Rattle.cells.proofs.CoveringPositions.{covering-most, covering-variables}
 
 -- the clue of line l stands in the words from `from` up to `end`
 pub record Located (ws table : List ℕ) (l from end : ℕ) : Type 0 where

@@ -4,5 +4,5 @@ pub mod BoardCells
 pub mod ByColumn
 pub mod Counted
 pub mod LinePositions
-pub mod LongestClause
+pub mod CoveringPositions
 pub mod Ruling

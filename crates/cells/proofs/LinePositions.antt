@@ -14,7 +14,7 @@ use Rattle.numbering.specs.Tables.{lineOf, Sound}
 use Rattle.numbering.proofs.SoundLines.{sound-some, sound-most, sound-within, of-many, of-first, of-positions, of-start, of-size, of-color}
 use Rattle.cells.specs.Cells.{covering}
 use Rattle.cells.specs.Found.{coveringBlock}
-use Rattle.cells.proofs.LongestClause.{ofBlock, covering-blocks, covering-most}
+use Rattle.cells.proofs.CoveringPositions.{ofBlock, covering-blocks, covering-most}
 
 -- the numbers of block b, as they are read
 pub record BlockRead (line clue : List ℕ) (b first p start size : ℕ) : Type 0 where

@@ -9,3 +9,4 @@ pub mod Bounded
 pub mod Summing
 pub mod Countings
 pub mod Totals
+pub mod LongestClause

@@ -10,7 +10,7 @@ use lib.ListN.{length, getD, length-append}
 use Rattle.lists.specs.Each.{sum}
 use Rattle.bits.specs.Bits.{bit}
 use Rattle.sections.specs.Sections.{Clause, sectionWords, sectionsWords, literals}
-use Rattle.sections.proofs.ClauseLists.{section-length}
+use Rattle.sections.proofs.ClauseLists.{literals-append, section-length}
 use Rattle.puzzles.specs.Puzzle.{Puzzle, width, height, lines}
 use Rattle.puzzles.specs.Good.{Good}
 use Rattle.puzzles.proofs.ColorSets.{good-known}
@@ -24,7 +24,7 @@ use Rattle.placement.specs.declared.rule.Rule.{Rule}
 use Rattle.placement.specs.declared.rule.Rule.the-variants.{Positions, Once, Overlap}
 use Rattle.cells.specs.Cells.{ofCells, pointOnce, precomputedCells}
 use Rattle.cells.specs.declared.rule.Rule.the-variants.{Color, Space}
-use Rattle.counts.specs.Families.{families, buffer, literalsOf, countsOf}
+use Rattle.counts.specs.Families.{families, joined, clauses, buffer, countsOf}
 use Rattle.counts.specs.Formulas.{overLines, unitsBy}
 use Rattle.counts.specs.Counted.{SideCounted, CellsCounted, Counted, numbers}
 use Rattle.counts.specs.declared.total.Side.{Side}
@@ -38,14 +38,26 @@ use Rattle.counts.proofs.UnitClauses.{hues-ones, hues-some, cells-units
 use Rattle.counts.proofs.Bounded.{most, most-most, lines-most, unit-most, point-most}
 
 -- the words of sections: their counts, their clauses' counts and their literals
-clausesOf : List (List Clause) → ℕ
-clausesOf [] = 0
-clausesOf (s ∷ ss) = length s + clausesOf ss
-
-sections-length : (ss : List (List Clause)) → length (sectionsWords ss) ≡ length ss + clausesOf ss + literalsOf ss
-unfolding sectionsWords clausesOf literalsOf
+sections-length : (ss : List (List Clause)) → length (sectionsWords ss) ≡ length ss + length (joined ss) + literals (joined ss)
+unfolding sectionsWords joined literals
 sections-length [] = refl
-sections-length (s ∷ ss) = omega (arith, length-append (sectionWords s) (sectionsWords ss), section-length s, sections-length ss)
+sections-length (s ∷ ss) =
+    omega (arith, length-append (sectionWords s) (sectionsWords ss), section-length s, sections-length ss, length-append s (joined ss), literals-append s (joined ss))
+
+-- a number of each family, added up
+added : (List Clause → ℕ) → List (List Clause) → ℕ
+added f [] = 0
+added f (s ∷ ss) = f s + added f ss
+
+joined-length : (ss : List (List Clause)) → length (joined ss) ≡ added length ss
+unfolding joined added
+joined-length [] = refl
+joined-length (s ∷ ss) = omega (arith, length-append s (joined ss), joined-length ss)
+
+joined-literals : (ss : List (List Clause)) → literals (joined ss) ≡ added literals ss
+unfolding joined added literals
+joined-literals [] = refl
+joined-literals (s ∷ ss) = omega (arith, literals-append s (joined ss), joined-literals ss)
 
 module _ (z : Puzzle) where
   abbrev twos : ℕ
@@ -53,10 +65,16 @@ module _ (z : Puzzle) where
       length (ofColumns z Once) + length (ofRows z Once) + length (ofColumns z Overlap) + length (ofRows z Overlap)
       + length (ofCells z Space) + length (pointOnce z)
 
+  literals-each : literals (clauses z)
+      ≡ literals (ofColumns z Positions) + (literals (ofRows z Positions) + (literals (ofColumns z Once) + (literals (ofRows z Once) + (literals (ofColumns z Overlap) + (literals (ofRows z Overlap)
+      + (literals (ofCells z Color) + (literals (ofCells z Space) + (literals (pointOnce z) + (literals (precomputedCells z) + 0)))))))))
+  unfolding families added
+  literals-each = joined-literals (families z)
+
   -- all literals
   pub literals-all : {first : ℕ} → first ≡ firstAt z (lines z)
-      → literalsOf (families z) ≡ first - 1 + 2 * twos + length (ofCells z Color) + length (ofCells z Space) + length (precomputedCells z)
-  unfolding families literalsOf firstAt
+      → literals (clauses z) ≡ first - 1 + 2 * twos + length (ofCells z Color) + length (ofCells z Space) + length (precomputedCells z)
+  unfolding firstAt
   literals-all e =
       let c : 1 + literals (ofColumns z Positions) ≡ firstAt z (width z) = lines-variables z 0 (width z) ∙ ap (firstAt z) (zero-add (width z)) in
       let r : firstAt z (width z) + literals (ofRows z Positions) ≡ firstAt z (lines z) = lines-variables z (width z) (height z) in
@@ -65,6 +83,7 @@ module _ (z : Puzzle) where
         e,
         c,
         r,
+        literals-each,
         lines-once z 0 (width z),
         lines-once z (width z) (height z),
         lines-overlap z 0 (width z),
@@ -76,9 +95,9 @@ module _ (z : Puzzle) where
       )
 
   -- all words
-  pub words-all : length (buffer z) ≡ 10 + (length (ofColumns z Positions) + length (ofRows z Positions) + twos + length (ofCells z Color) + length (precomputedCells z)) + literalsOf (families z)
-  unfolding families clausesOf
-  words-all = omega (arith, sections-length (families z))
+  pub words-all : length (buffer z) ≡ 10 + (length (ofColumns z Positions) + length (ofRows z Positions) + twos + length (ofCells z Color) + length (precomputedCells z)) + literals (clauses z)
+  unfolding families added
+  words-all = omega (arith, sections-length (families z), joined-length (families z))
 
   module _ (G : Good z) where
     -- every clause count fits an i32

@@ -3,13 +3,14 @@ use mathlib.Core.Path.{_≡_}
 use mathlib.Core.List.{List, [], _∷_}
 use Prim.Native.Nat.{ℕ}
 use lib.ListN.{length}
+use Rattle.sections.specs.Sections.{literals}
 use Rattle.puzzles.specs.Puzzle.{Puzzle, width, height}
 use Rattle.numbering.specs.Variables.{variables}
 use Rattle.placement.specs.Placement.{ofLines}
 use Rattle.placement.specs.declared.rule.Rule.the-variants.{Positions, Once, Overlap}
 use Rattle.cells.specs.Cells.{ofCells, pointOnce, precomputedCells}
 use Rattle.cells.specs.declared.rule.Rule.the-variants.{Color, Space}
-use Rattle.counts.specs.Families.{families, buffer, literalsOf}
+use Rattle.counts.specs.Families.{clauses, buffer}
 use Rattle.counts.specs.declared.total.Side.{Side}
 use Rattle.counts.specs.declared.total.Cells.{Cells}
 use Rattle.counts.specs.declared.total.Counts.{Counts}
@@ -30,7 +31,7 @@ pub record Counted (z : Puzzle) (c : Counts) : Type 0 where
   pub columns-are : SideCounted z 0 (width z) (c .columns)
   pub rows-are : SideCounted z (width z) (height z) (c .rows)
   pub cells-are : CellsCounted z (c .cells)
-  pub literals-is : c .literals ≡ literalsOf (families z)
+  pub literals-is : c .literals ≡ literals (clauses z)
   pub words-is : c .words ≡ length (buffer z)
 
 -- as the call `counts` writes them

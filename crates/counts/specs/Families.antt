@@ -20,15 +20,18 @@ families z =
     ∷ pointOnce z
     ∷ precomputedCells z ∷ []
 
+-- all clauses, one family after another
+unfoldable pub joined : List (List Clause) → List Clause
+joined [] = []
+joined (s ∷ ss) = s ++ joined ss
+
+abbrev pub clauses : Puzzle → List Clause
+clauses z = joined (families z)
+
 -- the clause buffer
 abbrev pub buffer : Puzzle → List ℤ
 buffer z = sectionsWords (families z)
 
--- the literals of all clauses
-unfoldable pub literalsOf : List (List Clause) → ℕ
-literalsOf [] = 0
-literalsOf (s ∷ ss) = literals s + literalsOf ss
-
 -- variables, the ten clause counts, all literals, words: what the call `counts` writes
 unfoldable pub countsOf : Puzzle → List ℕ
-countsOf z = variables z ∷ (map length (families z) ++ (literalsOf (families z) ∷ length (buffer z) ∷ []))
+countsOf z = variables z ∷ (map length (families z) ++ (literals (clauses z) ∷ length (buffer z) ∷ []))

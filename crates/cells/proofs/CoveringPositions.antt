@@ -1,23 +1,21 @@
--- The positions that cover a cell: at most 64 of them, all of them variables. So no clause of families 7 and 8 has more than 65 literals.
+-- The positions that cover a cell: at most 64 of them, all of them variables.
 use mathlib.Core.Path.{_≡_, refl, ap}
 use mathlib.Core.Bool.{Bool, true, false}
-use mathlib.Core.List.{List, [], _∷_, _++_, map}
+use mathlib.Core.List.{List, [], _∷_, _++_}
 use Prim.Native.Nat.{ℕ, zero, suc, _+_, _-_, _≤_, _<_}
 use native.Mathlib.Omega.{arith}
 use native.Mathlib.Decide.{decLt}
 use lib.Dec.{eqb}
-use lib.ListN.{length, getD, length-append, length-map, List·getD-append}
+use lib.ListN.{length, length-append, List·getD-append}
 use lib.Seq.{getD-append-add}
 use Rattle.lists.specs.Each.{each, when}
 use Rattle.lists.proofs.Sums.{sum-below, length-each}
-use Rattle.literals.specs.Literals.{IsVariable, largest, positive, negative}
+use Rattle.literals.specs.Literals.{IsVariable, largest}
 use Rattle.lines.specs.Arrangement.{at}
 use Rattle.numbering.specs.Variables.{Line, many, firstOf}
 use Rattle.numbering.specs.Tables.{Sound}
 use Rattle.numbering.proofs.SoundLines.{sound-sizes, sound-least, sound-most}
-use Rattle.cells.specs.declared.rule.Rule.{Rule}
-use Rattle.cells.specs.declared.rule.Rule.the-variants.{Color, Space}
-use Rattle.cells.specs.Cells.{covering, ruled}
+use Rattle.cells.specs.Cells.{covering}
 use Rattle.cells.specs.Found.{coveringBlock, AreVariables}
 use Rattle.cells.proofs.BlockPositions.{reaching, block-most}
 
@@ -74,20 +72,3 @@ module _ {L : Line} (S : Sound L) (c t : ℕ) where
   pub covering-variables : AreVariables (covering L c t)
   covering-variables =
       rw (covering-blocks L c t) (variables-each (many L) (ofBlock L c t) (λ b h. variables-when (eqb (at (L .runs) b .color) c) _ (block-variables (firstOf L b) (L .positions) (at (L .runs) b .start) (at (L .runs) b .size) t (sound-least S b h) (omega (arith, sound-most S b h)))))
-
--- ---- the longest clause
-
-pairs-short : (v : ℕ) (us : List ℕ) (k : ℕ) → length (getD (ruled Space v us) k []) ≤ 65
-unfolding ruled
-pairs-short v [] k = omega arith
-pairs-short v (u ∷ us) zero = omega arith
-pairs-short v (u ∷ us) (suc k) = pairs-short v us k
-
-ruled-short : (rule : Rule) (v : ℕ) (us : List ℕ) → length us ≤ 64 → (k : ℕ) → length (getD (ruled rule v us) k []) ≤ 65
-unfolding ruled
-ruled-short Color v us h zero = omega (arith, length-append (map positive us) (negative v ∷ []), length-map us positive)
-ruled-short Color v us h (suc k) = omega arith
-ruled-short Space v us h k = pairs-short v us k
-
-pub longest-clause : {L : Line} → Sound L → (rule : Rule) (c t v k : ℕ) → length (getD (ruled rule v (covering L c t)) k []) ≤ 65
-longest-clause {L} S rule c t v k = ruled-short rule v (covering L c t) (covering-most S c t) k
