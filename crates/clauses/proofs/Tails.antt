@@ -64,9 +64,6 @@ module _ {all rest : List (List Clause)} {out₀ out : List ℤ} {at : ℕ} (W :
   pub writing-place : at ≤ length out
   writing-place = omega (arith, fill-room (W .fill) [] (sectionsWords rest) refl)
 
-  pub writing-most : at ≤ length out₀
-  writing-most = omega (arith, writing-place, writing-kept)
-
 pub writing-done : {all : List (List Clause)} {out₀ out : List ℤ} {at : ℕ} → Writing all [] out₀ out at → Wrote (sectionsWords all) out₀ 0 out at
 unfolding sectionsWords
 writing-done W = fill-done (W .fill) refl

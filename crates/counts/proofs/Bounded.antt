@@ -23,7 +23,7 @@ use Rattle.counts.specs.declared.measure.Measure.{Measure}
 use Rattle.counts.specs.declared.measure.Measure.the-variants.{Blocks, Once, Overlap, Space}
 use Rattle.counts.proofs.Triangles.{pairs-count}
 
--- n(n-1)/2 up to 65
+-- n(n-1)/2 grows with n
 pub pairs-most : (n m : ℕ) → n ≤ m → n * (n - 1) / 2 ≤ m * (m - 1) / 2
 pairs-most n m h = omega (arith, mul-le-mul-right (n - 1) h, mul-le-mul-left m less)
   where

@@ -146,6 +146,15 @@ unfolding words
 words-length [] = refl
 words-length (b ∷ bs) = omega (arith, words-length bs)
 
+-- one block after another
+pub words-none : words [] ≡ []
+unfolding words
+words-none = refl
+
+pub words-next : (b : Block) (bs : List Block) → words (b ∷ bs) ≡ b .size ∷ b .color ∷ words bs
+unfolding words
+words-next b bs = refl
+
 -- size and colour of block b
 pub word-size : (bs : List Block) (b : ℕ) → getD (words bs) (2 * b) 0 ≡ blockAt bs b .size
 unfolding words

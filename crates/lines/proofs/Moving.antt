@@ -47,6 +47,11 @@ pub is-clear : (g : ℕ → ℕ → ℕ) (r q : Run) → end r + g (r .color) (q
 unfolding conflict
 is-clear g r q h = le-ltb (q .start) (end r + g (r .color) (q .color)) h
 
+-- a distance, in numbers
+pub distance-is : (g : ℕ → ℕ → ℕ) (r q : Run) → q .start - end r + 1 - g (r .color) (q .color) ≡ distance g r q
+unfolding distance
+distance-is g r q = refl
+
 -- document 01's distance: the later start minus the earlier end, plus 1 if the colours differ
 pub distance-base : (r q : Run) → distance gap r q ≡ q .start - end r + cond (eqb (r .color) (q .color)) 0 1
 unfolding distance gap

@@ -10,7 +10,7 @@ use Rattle.lists.proofs.Eaches.{length-tab, getD-tab}
 use Rattle.lists.proofs.Parts.{part-within}
 use Rattle.lines.specs.Clue.{end, gap, minSpace}
 use Rattle.lines.specs.Arrangement.{at, clash, distance}
-use Rattle.lines.proofs.Packing.{base-gap, packed-length, packed-apart, packed-sized, sizes-within, blocks-within}
+use Rattle.lines.proofs.Packing.{base-gap, packed-length, packed-apart, sizes-within, blocks-within}
 use Rattle.lines.proofs.Moving.{positions-some, positions-space, moved-within, clash-is, distance-some}
 use Rattle.numbering.specs.Variables.{Line, many, placedAt, firstOf}
 use Rattle.numbering.specs.Tables.{lineOf, Sound}
@@ -44,9 +44,6 @@ module _ {L : Line} (S : Sound L) where
 
     pub sound-most : firstOf L b + L .positions ≤ 262145
     sound-most = omega (arith, part-within (many L) (L .positions) b h, S .most)
-
-    pub sound-size : 0 < at (L .runs) b .size
-    sound-size = rw (S .runs-are) (packed-sized base-gap (S .proper) b below)
 
     -- a block at any of its positions is inside the line
     pub sound-within : (i : ℕ) → i < L .positions → end (placedAt L b i) ≤ 64

@@ -13,7 +13,8 @@ use Rattle.literals.specs.Literals.{largest}
 use Rattle.sections.specs.Sections.{Clause, clausesWords, atLeastOne, atMostOne}
 use Rattle.sections.proofs.ClauseLists.{say-first, say-done}
 use Rattle.lines.specs.Clue.{gap}
-use Rattle.lines.specs.Arrangement.{at, distance}
+use Rattle.lines.specs.Arrangement.{at}
+use Rattle.lines.proofs.Moving.{distance-is}
 use Rattle.numbering.specs.Variables.{Line, many, firstOf}
 use Rattle.numbering.specs.Tables.{Sound, lineOf}
 use Rattle.numbering.proofs.SoundLines.{sound-shared, sound-some, sound-least, sound-most, sound-within, sound-apart, of-many, of-run, of-first, of-positions}
@@ -61,8 +62,7 @@ module _ (line clue : List ℕ) (S : Sound (lineOf line clue)) where
         }
 
     pub apart-is : getD line (4 + b) 0 - (getD line (4 + a) 0 + getD clue (2 * a) 0) + 1 - gap (getD clue (2 * a + 1) 0) (getD clue (2 * b + 1) 0) ≡ apart L a b
-    unfolding distance
-    apart-is = rw (of-run line clue a (omega (arith, known)), of-run line clue b known)
+    apart-is = rw (of-run line clue a (omega (arith, known)), of-run line clue b known) (distance-is gap _ _)
 
   -- ---- its first variable and its positions, as they are read
 

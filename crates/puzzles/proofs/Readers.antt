@@ -11,6 +11,7 @@ use borrow.Author.Tests.{ne-eqb, eqb-false, le-ltb, ltb-false}
 use Rattle.lists.proofs.Tests.{neither}
 use Rattle.lines.specs.Clue.{Block, words}
 use Rattle.lines.specs.Calls.{offSize, offColor}
+use Rattle.lines.proofs.ClueWords.{words-none, words-next}
 use Rattle.puzzles.specs.Puzzle.{Puzzle, width, height, clueWords, cluesWords, linesWords, cellsWords, puzzleWords}
 use Rattle.puzzles.specs.Walk.{Walk, got, times, counted, readBlock, readClue, readLines, readMask, readCells, readPuzzle}
 use Rattle.puzzles.proofs.Walking.{same-got, stopIf-got, word-got, next-got}
@@ -130,8 +131,8 @@ abbrev pub FineClue : List Block → Type 0
 FineClue bs = (ltb 64 (length bs) ≡ false) × Each no-block FineBlock bs
 
 pub clue-reader : Reader readClue clueWords FineClue
-unfolding words clueWords
-clue-reader = counted-reader no-block block-reader words refl (λ b bs. refl) (ltb 64) 3
+unfolding clueWords
+clue-reader = counted-reader no-block block-reader words words-none words-next (ltb 64) 3
 
 abbrev pub FineLines : List (List Block) → Type 0
 FineLines ls = (offSize (length ls) ≡ false) × Each [] FineClue ls

@@ -45,7 +45,7 @@ pub fn at_least_one(v: usize, n: usize, out: &mut [i32], at: usize) -> usize
     to
 }
 
-// Document 01's row: x with none of the n variables from y on.
+// A row: x with none of the n variables from y on.
 pub fn put_row(x: usize, y: usize, n: usize, out: &mut [i32], at: usize) -> usize
     requires { ⌜ IsVariable x × (0 < y) × (y + n ≤ largest + 1) ⌝ }
     requires { ⌜ at + length (clausesWords (row x y n)) ≤ length (now out) ⌝ }
