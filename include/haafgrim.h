@@ -47,12 +47,14 @@ uint32_t haafgrim_transpose(size_t width, size_t height, const uint8_t *grid, si
 
 /* The clauses of a puzzle, which is given as words such as haafgrim_read_grid writes: ten sections, each its number of clauses, then for each clause its number
  * of literals and its literals, v or -v. Variables count from 1: per column and block its positions, per row and block its positions, then per cell, row by row,
- * the colours of the rows, ascending (colour 1 where there are none). Needs as many words as haafgrim_counts writes last.
- * Refuses: 1, 2, 3, 4, 5, 7, 8, 11, 6, 9, 10, 12. */
+ * the colours of the rows, ascending (colour 1 where there are none). There are at most 262,144.
+ * The sections: 1 and 2, each block of a column, of a row, has some position; 3 and 4, no two; 5 and 6, no two blocks of it are in conflict; 7, a colour of a cell is
+ * that of a block which covers it, in its column and in its row; 8, and a cell that is covered has the colour; 9, no two colours; 10, what the masks say.
+ * Needs as many words as haafgrim_counts writes last. Refuses: 1, 2, 3, 4, 5, 7, 8, 11, 6, 9, 10, 12. */
 uint32_t haafgrim_clauses(const uint32_t *puzzle, size_t puzzle_len, int32_t *out, size_t out_len, size_t *place);
 
 /* For the same words: how many variables there are, how many clauses in each of the ten sections, how many literals in all, and how many words the clauses need.
- * Needs 13 numbers. Refuses: 1, 2, 3, 4, 5, 7, 8, 11, 6, 9, 10, 12. */
+ * Needs 13 words of 64 bits. Refuses: 1, 2, 3, 4, 5, 7, 8, 11, 6, 9, 10, 12. */
 uint32_t haafgrim_counts(const uint32_t *puzzle, size_t puzzle_len, uint64_t *out, size_t out_len, size_t *place);
 
 #ifdef __cplusplus
