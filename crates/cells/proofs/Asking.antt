@@ -3,7 +3,7 @@ use mathlib.Core.Path.{_≡_, sym, ap}
 use mathlib.Core.List.{List, _++_}
 use Prim.Native.Nat.{ℕ, _+_, _-_, _*_, _≤_, _<_}
 use native.Mathlib.Omega.{arith}
-use lib.ListN.{length, take, drop, getD, length-append, length-take, length-drop}
+use lib.ListN.{length, take, drop, getD, length-append}
 use lib.IntN.{ℤ}
 use lib.Seq.{length-take-le}
 use Rattle.lists.specs.Wrote.{Wrote}
@@ -15,7 +15,7 @@ use Rattle.puzzles.specs.Puzzle.{lines}
 use Rattle.puzzles.specs.Checks.{puzzle}
 use Rattle.numbering.specs.Variables.{lineAt}
 use Rattle.numbering.specs.Tables.{Ready, lineOf, Sound}
-use Rattle.numbering.proofs.Parts.{ready-sound, ready-low, ready-within, ready-line}
+use Rattle.numbering.proofs.Parts.{ready-sound, ready-long, ready-within, ready-line}
 use Rattle.cells.specs.declared.rule.Rule.{Rule}
 use Rattle.cells.specs.Cells.{covering, ruled}
 use Rattle.cells.specs.Found.{AreVariables}
@@ -43,7 +43,7 @@ module _ {ws table : List ℕ} {l from end : ℕ} (A : Located ws table l from e
   part-sound = rw line-is S
 
   pub part-long : 68 ≤ length (take (68 * l + 68 - 68 * l) (drop (68 * l) table))
-  part-long = rw (length-take, length-drop) (omega (arith, ready-low ws table (A .ready) l (A .below), A .ready .long))
+  part-long = ready-long ws table (A .ready) l (A .below)
 
   -- what stands in front of the places for what is found
   module _ (c t : ℕ) {found found′ : List ℕ} {n : ℕ} (w : Wrote (covering (lineOf (take (68 * l + 68 - 68 * l) (drop (68 * l) table)) (take (end - (from + 1)) (drop (from + 1) ws))) c t) found 0 found′ n) where

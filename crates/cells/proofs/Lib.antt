@@ -2,7 +2,6 @@ pub mod Asking
 pub mod BlockPositions
 pub mod BoardCells
 pub mod ByColumn
-pub mod Counted
 pub mod LinePositions
 pub mod CoveringPositions
 pub mod Ruling

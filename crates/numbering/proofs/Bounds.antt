@@ -34,6 +34,11 @@ product-most n p h = elim (decLe n 32) [
 pub hues-most : (z : Puzzle) → hues z ≤ 31
 hues-most z = palette-most (colors z)
 
+pub first-some : (z : Puzzle) (l : ℕ) → 0 < firstAt z l
+unfolding firstAt
+first-some z zero = omega arith
+first-some z (suc l) = omega (arith, first-some z l)
+
 module _ (z : Puzzle) (G : Good z) where
   length-most : (l : ℕ) → lengthAt z l ≤ 64
   unfolding lengthAt
@@ -52,11 +57,6 @@ module _ (z : Puzzle) (G : Good z) where
   first-bound zero h = omega arith
   first-bound (suc l) h = omega (arith, first-bound l (omega arith), line-most l (omega arith))
 
-  first-some : (l : ℕ) → 0 < firstAt z l
-  unfolding firstAt
-  first-some zero = omega arith
-  first-some (suc l) = omega (arith, first-some l)
-
   -- each of its lines is sound
   pub line-sound : (l : ℕ) → l < lines z → Sound (lineAt z l)
   unfolding lineAt
@@ -68,7 +68,7 @@ module _ (z : Puzzle) (G : Good z) where
     fits = G .fits l h;
     runs-are = refl;
     positions-are = refl;
-    least = first-some l;
+    least = first-some z l;
     most = rw (packed-length gap (clueAt z l)) (omega (arith, first-bound l (omega arith), line-most l h, G .width-most, G .height-most));
   }
 
@@ -77,7 +77,7 @@ module _ (z : Puzzle) (G : Good z) where
 
   -- the first variable of its cells
   pub cells-first : (firstAt z (lines z) ≤ 135169) × (0 < firstAt z (lines z))
-  cells-first = (omega (arith, first-bound (lines z) (omega arith), G .width-most, G .height-most), first-some (lines z))
+  cells-first = (omega (arith, first-bound (lines z) (omega arith), G .width-most, G .height-most), first-some z (lines z))
 
   -- the variables of its cells
   module _ (x y : ℕ) (h : x < width z) (l : y < height z) where

@@ -9,6 +9,7 @@ use Rattle.lists.proofs.Parts.{part-within, place-within}
 use Rattle.puzzles.specs.Puzzle.{Puzzle, width, height, lines, clueAt}
 use Rattle.boards.specs.Table.{firstAt, positionsAt}
 use Rattle.numbering.specs.Variables.{lineAt, hues, cellFirst, variables}
+use Rattle.numbering.proofs.Bounds.{first-some}
 use Rattle.numbering.specs.Names.{Name, position, cell, IsName, number}
 
 -- ---- n parts of length m: each number below n * m is element j of part i, for one i and one j
@@ -48,10 +49,6 @@ module _ (z : Puzzle) where
     | no e ↦ omega (arith, first-up l n (omega arith))
   ]
 
-  first-some : (l : ℕ) → 0 < firstAt z l
-  unfolding firstAt
-  first-some l = omega (arith, first-up 0 l (omega arith))
-
   record Within (l v : ℕ) : Type 0 where
     low : firstAt z l ≤ v
     high : v < firstAt z (suc l)
@@ -86,11 +83,11 @@ module _ (z : Puzzle) where
   -- each name has a number from 1 to V
   pub number-within : (n : Name) → IsName z n → (0 < number z n) × (number z n ≤ variables z)
   unfolding cellFirst variables
-  number-within (position l b i) h = (omega (arith, first-some l, position-within l b i h .low), omega (arith, position-below l b i h))
+  number-within (position l b i) h = (omega (arith, first-some z l, position-within l b i h .low), omega (arith, position-below l b i h))
   number-within (cell x y r) h =
       let c = y * width z + x in
       let c-in : c < width z * height z = omega (arith, place-within (height z) (width z) y x (h .1) (h .0), mul-comm (height z) (width z)) in
-      (omega (arith, first-some (lines z)), omega (arith, first-some (lines z), place-within (width z * height z) (hues z) c r c-in (h .2)))
+      (omega (arith, first-some z (lines z)), omega (arith, first-some z (lines z), place-within (width z * height z) (hues z) c r c-in (h .2)))
 
   -- no two have the same
   pub number-once : (n m : Name) → IsName z n → IsName z m → number z n ≡ number z m → n ≡ m
@@ -117,7 +114,7 @@ module _ (z : Puzzle) where
         let P = part-of (length (clueAt z l)) (positionsAt z l) (v - firstAt z l) (omega (arith, W .low, W .high)) in
         (position l (P .i) (P .j), (l-in, P .i-in, P .j-in), omega (arith, P .is, W .low))
     | no m ↦
-        let P = part-of (width z * height z) (hues z) (v - firstAt z (lines z)) (omega (arith, first-some (lines z))) in
+        let P = part-of (width z * height z) (hues z) (v - firstAt z (lines z)) (omega (arith, first-some z (lines z))) in
         let Q = part-of (height z) (width z) (P .i) (omega (arith, P .i-in, mul-comm (height z) (width z))) in
         (cell (Q .j) (Q .i) (P .j), (Q .j-in, Q .i-in, P .j-in), rw (Q .is) (omega (arith, P .is)))
   ]

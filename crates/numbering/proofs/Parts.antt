@@ -3,7 +3,7 @@ use mathlib.Core.Path.{_≡_, sym, _∙_}
 use mathlib.Core.List.{List}
 use Prim.Native.Nat.{ℕ, _+_, _-_, _*_, _/_, _≤_, _<_}
 use native.Mathlib.Omega.{arith}
-use lib.ListN.{length, take, drop, getD}
+use lib.ListN.{length, take, drop, getD, length-take, length-drop}
 use lib.Seq.{getD-take, getD-drop, ext-getD}
 use Rattle.lists.proofs.Eaches.{length-tab, getD-tab}
 use Rattle.refusals.specs.Verdict.{accepted}
@@ -64,6 +64,9 @@ module _ (ws table : List ℕ) (R : Ready ws table) (l : ℕ) (h : l < lines (pu
 
   pub ready-low : l < 128
   ready-low = omega (arith, lines-most ws (R .sectioned) l h)
+
+  pub ready-long : 68 ≤ length (take (68 * l + 68 - 68 * l) (drop (68 * l) table))
+  ready-long = rw (length-take, length-drop) (omega (arith, ready-low, R .long))
 
   module _ {from : ℕ} (e : from ≡ getD table (68 * l) 0) where
     pub ready-within : from + 1 + 2 * getD ws from 0 ≤ length ws

@@ -1,2 +1,3 @@
 pub mod ClauseLists
 pub mod Rows
+pub mod Section

@@ -1,6 +1,6 @@
 use Rattle.lists.proofs.Emitting.{emit-kept, Emitting, emit-room, emit-next}
 use lib.ListN.{length-set}
-use Rattle.cells.proofs.Counted.{count-room, count-first, count-done}
+use Rattle.sections.proofs.Section.{count-room, count-first, count-done}
 use mathlib.Core.Path.{_≡_, refl, ap, _∙_}
 use native.Mathlib.Omega.{arith}
 use Prim.Native.Nat.{_-_}

@@ -1,8 +1,7 @@
 use native.Mathlib.Omega.{arith}
 use Prim.Native.Nat.{_+_, _≤_, _<_}
 use lib.ListN.{length}
-use Rattle.numbering.proofs.Parts.{ready-sound, ready-low, ready-within, ready-line}
-use Rattle.placement.proofs.SectionLoops.{line-long}
+use Rattle.numbering.proofs.Parts.{ready-sound, ready-low, ready-long, ready-within, ready-line}
 use borrow.Author.Needs.{needs}
 use Rattle.counts.proofs.line.count_line.Statement.{statement}
 use Rattle.counts.proofs.line.count_line.Tie as tie
@@ -36,5 +35,5 @@ count-line-spec =
     (λ c. omega (arith, inside (c .before)))
     (λ c. omega (arith, inside (c .before)))
     (λ c. omega (arith, inside (c .before)))
-    (λ c κs. (rw (ready-line _ _ (c .before .before .before .before .before .before .before .pre .0) _ (c .before .before .before .before .before .before .before .pre .1) (c .before .before .before .wide .ensures) (c .before .before .clue-end .ensures)) (ready-sound _ _ (c .before .before .before .before .before .before .before .pre .0) _ (c .before .before .before .before .before .before .before .pre .1)), line-long _ _ (c .before .before .before .before .before .before .before .pre .0) _ (c .before .before .before .before .before .before .before .pre .1)))
+    (λ c κs. (rw (ready-line _ _ (c .before .before .before .before .before .before .before .pre .0) _ (c .before .before .before .before .before .before .before .pre .1) (c .before .before .before .wide .ensures) (c .before .before .clue-end .ensures)) (ready-sound _ _ (c .before .before .before .before .before .before .before .pre .0) _ (c .before .before .before .before .before .before .before .pre .1)), ready-long _ _ (c .before .before .before .before .before .before .before .pre .0) _ (c .before .before .before .before .before .before .before .pre .1)))
     (λ c. rw (ready-line _ _ (c .before .before .before .before .before .before .before .before .pre .0) _ (c .before .before .before .before .before .before .before .before .pre .1) (c .before .before .before .before .wide .ensures) (c .before .before .before .clue-end .ensures)) at (c .line-count .ensures)))

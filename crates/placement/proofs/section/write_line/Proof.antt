@@ -1,8 +1,7 @@
 use Prim.Native.Nat.{_+_, _≤_, _<_}
 use lib.ListN.{length}
-use Rattle.placement.proofs.SectionLoops.{line-long}
 use native.Mathlib.Omega.{arith}
-use Rattle.numbering.proofs.Parts.{ready-sound, ready-low, ready-within, ready-line}
+use Rattle.numbering.proofs.Parts.{ready-sound, ready-low, ready-long, ready-within, ready-line}
 use borrow.Author.Needs.{needs}
 use Rattle.placement.proofs.section.write_line.Statement.{statement}
 use Rattle.placement.proofs.section.write_line.Tie as tie
@@ -35,6 +34,6 @@ write-line-spec =
     (λ c. omega (arith, inside (c .before)))
     (λ c. omega (arith, inside (c .before)))
     (λ c κs. let e = ready-line _ _ (c .before .before .before .before .before .before .before .before .pre .0 .0) _ (c .before .before .before .before .before .before .before .before .pre .0 .1) (c .before .before .before .before .wide .ensures) (c .before .before .before .clue-end .ensures) in
-    ((rw e (ready-sound _ _ (c .before .before .before .before .before .before .before .before .pre .0 .0) _ (c .before .before .before .before .before .before .before .before .pre .0 .1)), line-long _ _ (c .before .before .before .before .before .before .before .before .pre .0 .0) _ (c .before .before .before .before .before .before .before .before .pre .0 .1)), rw e (c .before .before .before .before .before .before .before .before .pre .1)))
+    ((rw e (ready-sound _ _ (c .before .before .before .before .before .before .before .before .pre .0 .0) _ (c .before .before .before .before .before .before .before .before .pre .0 .1)), ready-long _ _ (c .before .before .before .before .before .before .before .before .pre .0 .0) _ (c .before .before .before .before .before .before .before .before .pre .0 .1)), rw e (c .before .before .before .before .before .before .before .before .pre .1)))
     (λ c. search needs)
     (λ c. rw (ready-line _ _ (c .before .before .before .before .before .before .before .before .before .before .pre .0 .0) _ (c .before .before .before .before .before .before .before .before .before .before .pre .0 .1) (c .before .before .before .before .before .before .wide .ensures) (c .before .before .before .before .before .clue-end .ensures)) at (c .before .line-clauses .ensures)))

@@ -10,7 +10,8 @@ use Rattle.puzzles.specs.Checks.{puzzle}
 use Rattle.numbering.specs.Variables.{lineAt}
 use Rattle.placement.specs.Placement.{ruled}
 use Rattle.boards.proofs.Laying.{lines-most}
-use Rattle.placement.proofs.SectionLoops.{section-room, lines-first, lines-done}
+use Rattle.sections.proofs.Section.{count-room, count-first, count-done}
+use Rattle.placement.proofs.SectionLoops.{lines-are}
 use borrow.Author.Needs.{needs}
 use Rattle.placement.proofs.section.write_lines.Statement.{statement}
 use Rattle.placement.proofs.section.write_lines.Tie as tie
@@ -28,12 +29,12 @@ write-lines-spec =
     Inv-loop
     μ-loop
     (λ c κs. c .before .before .pre .1 .0 .1)
-    (λ c. section-room _ _ (c .before .before .before .pre .1 .1))
-    (λ c. lines-first _ _ _ _ (c .before .before .before .args .out .now) (c .before .before .before .pre .1 .1) _)
+    (λ c. count-room _ _ (c .before .before .before .pre .1 .1))
+    (λ c. count-first _ _ (lines-are _ _ _ _) (c .before .before .before .args .out .now) (c .before .before .before .pre .1 .1) _)
     (λ c. omega (arith, lines-most _ (c .before .before .before .before .before .pre .0 .0 .sectioned) 0 (omega arith)))
     (λ c κs. ((c .before .before .before .before .before .before .pre .0 .0, omega arith), emit-room (c .before .before .loop .inv) (c .before .loop-test .taken)))
     (λ c. search needs)
     (λ c. search needs)
     (λ c. emit-next (c .before .before .before .before .loop .inv) (c .before .before .before .loop-test .taken) (c .before .write-line .ensures))
     (λ c. emit-kept (c .before .loop .inv) ∙ simp length-set)
-    (λ c. lines-done _ _ _ _ _ (c .before .before .before .before .before .pre .1 .1) _ (word-is (c .before .before .number .result) (c .before .before .number .ok) ∙ c .before .before .number .ensures ∙ ap pos (c .before .before .before .before .before .pre .1 .0 .0)) (c .before .loop .inv) (c .loop-test .left)))
+    (λ c. count-done _ _ (lines-are _ _ _ _) _ (c .before .before .before .before .before .pre .1 .1) _ (word-is (c .before .before .number .result) (c .before .before .number .ok) ∙ c .before .before .number .ensures ∙ ap pos (c .before .before .before .before .before .pre .1 .0 .0)) (c .before .loop .inv) (c .loop-test .left)))

@@ -7,7 +7,7 @@ use Prim.Native.Nat.{_-_}
 use lib.IntN.{pos}
 use Rattle.literals.proofs.Words.{word-is}
 use Rattle.sections.specs.Sections.{clausesWords}
-use Rattle.cells.proofs.Counted.{count-room, count-first, count-done}
+use Rattle.sections.proofs.Section.{count-room, count-first, count-done}
 use Rattle.points.specs.Points.{columnOnce}
 use borrow.Author.Needs.{needs}
 use Rattle.points.proofs.once.write_points.Statement.{statement}

@@ -3,7 +3,7 @@ use native.Mathlib.Omega.{arith}
 use lib.IntN.{pos}
 use lib.ListN.{length-set}
 use Rattle.literals.proofs.Words.{word-is}
-use Rattle.cells.proofs.Counted.{count-room, clauses-room, section-wrote}
+use Rattle.sections.proofs.Section.{count-room, clauses-room, section-wrote}
 use Rattle.points.proofs.PointCells.{cells-within, rows-are, masks-variables}
 use borrow.Author.Needs.{needs}
 use Rattle.points.proofs.precomputed.write_precomputed.Statement.{statement}
