@@ -1,14 +1,12 @@
-use Prim.Native.Nat.{_≤_}
-use mathlib.Core.Path.{ap}
+use Prim.Native.Nat.{_≤_, _+_, _-_}
+use mathlib.Core.Path.{ap, _≡_, _∙_}
 use Rattle.boards.specs.Table.{firstAt}
 use Rattle.boards.proofs.Boards.{accepted-sectioned, width-word, height-word, width-some, height-some, rows-within, rows-laid, cells-laid}
 use Rattle.boards.proofs.Finding.{found-within}
 use Rattle.puzzles.proofs.Accepting.{sizes, accepted-is}
 use Rattle.puzzles.specs.Puzzle as P
 use Rattle.puzzles.specs.Checks as C
-use Prim.Native.Nat.{_+_, _-_}
 use native.Mathlib.Omega.{arith}
-use mathlib.Core.Path.{_≡_, _∙_}
 use borrow.Author.Needs.{needs}
 use Rattle.boards.proofs.board.board_of.Statement.{statement}
 use Rattle.boards.proofs.board.board_of.Tie as tie

@@ -1,16 +1,14 @@
-use Rattle.boards.proofs.Laying.{line-fine, lay-kept, lay-fits, lay-wrote, lay-positions, variables-most}
+use Rattle.boards.proofs.Laying.{line-fine, lay-kept, lay-fits, lay-wrote, lay-positions, variables-most, Room, room, lay-refused}
 use Rattle.boards.specs.Table.{positionsAt}
 use Rattle.lines.proofs.Checks.{size-within}
 use Rattle.refusals.specs.Verdict.{accepted}
-use mathlib.Core.Path.{ap}
-use Rattle.boards.proofs.Laying.{Room, room, lay-refused}
+use mathlib.Core.Path.{ap, _≡_, ap₂, _∙_}
 use Rattle.puzzles.specs.Checks.{puzzle}
 use Rattle.puzzles.specs.Puzzle.{clueAt}
 use borrow.Author.Tests.{lt-ltb, le-ltb}
 use lib.ListN.{length}
 use Prim.Native.Nat.{_*_}
 use native.Mathlib.Omega.{arith}
-use mathlib.Core.Path.{_≡_, ap₂, _∙_}
 use borrow.Author.Needs.{needs}
 use Rattle.boards.proofs.table.lay_line.Statement.{statement}
 use Rattle.boards.proofs.table.lay_line.Tie as tie

@@ -16,14 +16,27 @@ write-sections-spec =
     (tie.spec
     (λ c. search needs)
     (λ c κs. search needs)
-    (λ c κs. (c .before .before .before .before .before .before .pre .0, (c .before .before .before .before .before .before .pre .1 .0, writing-front (lineSections (puzzle (c .before .before .before .before .before .before .args .words .now))) (cellSections (puzzle (c .before .before .before .before .before .before .args .words .now))) (writing-first (lineSections (puzzle (c .before .before .before .before .before .before .args .words .now)) ++ cellSections (puzzle (c .before .before .before .before .before .before .args .words .now))) (c .before .before .before .before .before .before .args .out .now) (rw (all-sections (puzzle (c .before .before .before .before .before .before .args .words .now))) at (c .before .before .before .before .before .before .pre .1 .1))) refl)))
+    (λ c κs. let z = puzzle (c .before .before .before .before .before .before .args .words .now) in
+    let W₀ = writing-first (lineSections z ++ cellSections z) (c .before .before .before .before .before .before .args .out .now) (rw (all-sections z) at (c .before .before .before .before .before .before .pre .1 .1)) in
+    (c .before .before .before .before .before .before .pre .0, (c .before .before .before .before .before .before .pre .1 .0, writing-front (lineSections z) (cellSections z) W₀ refl)))
     (λ c. omega (arith, palette-few (c .before .before .before .before .before .before .before .before .args .board .colors) (c .before .before .before .before .palette .ensures)))
     (λ c. palette-count (c .before .before .before .before .before .before .before .before .before .args .board .colors) (c .before .before .before .before .before .palette .ensures))
-    (λ c. omega (arith, writing-place (writing-whole (lineSections (puzzle (c .before .before .before .before .before .before .before .before .before .args .words .now))) (cellSections (puzzle (c .before .before .before .before .before .before .before .before .before .args .words .now))) (writing-first (lineSections (puzzle (c .before .before .before .before .before .before .before .before .before .args .words .now)) ++ cellSections (puzzle (c .before .before .before .before .before .before .before .before .before .args .words .now))) (c .before .before .before .before .before .before .before .before .before .args .out .now) (rw (all-sections (puzzle (c .before .before .before .before .before .before .before .before .before .args .words .now))) at (c .before .before .before .before .before .before .before .before .before .pre .1 .1))) (c .before .before .write-line-sections .ensures)), writing-kept (writing-whole (lineSections (puzzle (c .before .before .before .before .before .before .before .before .before .args .words .now))) (cellSections (puzzle (c .before .before .before .before .before .before .before .before .before .args .words .now))) (writing-first (lineSections (puzzle (c .before .before .before .before .before .before .before .before .before .args .words .now)) ++ cellSections (puzzle (c .before .before .before .before .before .before .before .before .before .args .words .now))) (c .before .before .before .before .before .before .before .before .before .args .out .now) (rw (all-sections (puzzle (c .before .before .before .before .before .before .before .before .before .args .words .now))) at (c .before .before .before .before .before .before .before .before .before .pre .1 .1))) (c .before .before .write-line-sections .ensures))))
-    (λ c. omega (arith, writing-place (writing-whole (lineSections (puzzle (c .before .before .before .before .before .before .before .before .before .args .words .now))) (cellSections (puzzle (c .before .before .before .before .before .before .before .before .before .args .words .now))) (writing-first (lineSections (puzzle (c .before .before .before .before .before .before .before .before .before .args .words .now)) ++ cellSections (puzzle (c .before .before .before .before .before .before .before .before .before .args .words .now))) (c .before .before .before .before .before .before .before .before .before .args .out .now) (rw (all-sections (puzzle (c .before .before .before .before .before .before .before .before .before .args .words .now))) at (c .before .before .before .before .before .before .before .before .before .pre .1 .1))) (c .before .before .write-line-sections .ensures)), writing-kept (writing-whole (lineSections (puzzle (c .before .before .before .before .before .before .before .before .before .args .words .now))) (cellSections (puzzle (c .before .before .before .before .before .before .before .before .before .args .words .now))) (writing-first (lineSections (puzzle (c .before .before .before .before .before .before .before .before .before .args .words .now)) ++ cellSections (puzzle (c .before .before .before .before .before .before .before .before .before .args .words .now))) (c .before .before .before .before .before .before .before .before .before .args .out .now) (rw (all-sections (puzzle (c .before .before .before .before .before .before .before .before .before .args .words .now))) at (c .before .before .before .before .before .before .before .before .before .pre .1 .1))) (c .before .before .write-line-sections .ensures))))
-    (λ c. omega (arith, writing-place (writing-whole (lineSections (puzzle (c .before .before .before .before .before .before .before .before .before .args .words .now))) (cellSections (puzzle (c .before .before .before .before .before .before .before .before .before .args .words .now))) (writing-first (lineSections (puzzle (c .before .before .before .before .before .before .before .before .before .args .words .now)) ++ cellSections (puzzle (c .before .before .before .before .before .before .before .before .before .args .words .now))) (c .before .before .before .before .before .before .before .before .before .args .out .now) (rw (all-sections (puzzle (c .before .before .before .before .before .before .before .before .before .args .words .now))) at (c .before .before .before .before .before .before .before .before .before .pre .1 .1))) (c .before .before .write-line-sections .ensures)), writing-kept (writing-whole (lineSections (puzzle (c .before .before .before .before .before .before .before .before .before .args .words .now))) (cellSections (puzzle (c .before .before .before .before .before .before .before .before .before .args .words .now))) (writing-first (lineSections (puzzle (c .before .before .before .before .before .before .before .before .before .args .words .now)) ++ cellSections (puzzle (c .before .before .before .before .before .before .before .before .before .args .words .now))) (c .before .before .before .before .before .before .before .before .before .args .out .now) (rw (all-sections (puzzle (c .before .before .before .before .before .before .before .before .before .args .words .now))) at (c .before .before .before .before .before .before .before .before .before .pre .1 .1))) (c .before .before .write-line-sections .ensures))))
+    (λ c. omega (arith, (let z = puzzle (c .before .before .before .before .before .before .before .before .before .args .words .now) in let W₀ = writing-first (lineSections z ++ cellSections z) (c .before .before .before .before .before .before .before .before .before .args .out .now) (rw (all-sections z) at (c .before .before .before .before .before .before .before .before .before .pre .1 .1)) in let W₁ = writing-whole (lineSections z) (cellSections z) W₀ (c .before .before .write-line-sections .ensures) in writing-place W₁), (let z = puzzle (c .before .before .before .before .before .before .before .before .before .args .words .now) in let W₀ = writing-first (lineSections z ++ cellSections z) (c .before .before .before .before .before .before .before .before .before .args .out .now) (rw (all-sections z) at (c .before .before .before .before .before .before .before .before .before .pre .1 .1)) in let W₁ = writing-whole (lineSections z) (cellSections z) W₀ (c .before .before .write-line-sections .ensures) in writing-kept W₁)))
+    (λ c. omega (arith, (let z = puzzle (c .before .before .before .before .before .before .before .before .before .args .words .now) in let W₀ = writing-first (lineSections z ++ cellSections z) (c .before .before .before .before .before .before .before .before .before .args .out .now) (rw (all-sections z) at (c .before .before .before .before .before .before .before .before .before .pre .1 .1)) in let W₁ = writing-whole (lineSections z) (cellSections z) W₀ (c .before .before .write-line-sections .ensures) in writing-place W₁), (let z = puzzle (c .before .before .before .before .before .before .before .before .before .args .words .now) in let W₀ = writing-first (lineSections z ++ cellSections z) (c .before .before .before .before .before .before .before .before .before .args .out .now) (rw (all-sections z) at (c .before .before .before .before .before .before .before .before .before .pre .1 .1)) in let W₁ = writing-whole (lineSections z) (cellSections z) W₀ (c .before .before .write-line-sections .ensures) in writing-kept W₁)))
+    (λ c. omega (arith, (let z = puzzle (c .before .before .before .before .before .before .before .before .before .args .words .now) in let W₀ = writing-first (lineSections z ++ cellSections z) (c .before .before .before .before .before .before .before .before .before .args .out .now) (rw (all-sections z) at (c .before .before .before .before .before .before .before .before .before .pre .1 .1)) in let W₁ = writing-whole (lineSections z) (cellSections z) W₀ (c .before .before .write-line-sections .ensures) in writing-place W₁), (let z = puzzle (c .before .before .before .before .before .before .before .before .before .args .words .now) in let W₀ = writing-first (lineSections z ++ cellSections z) (c .before .before .before .before .before .before .before .before .before .args .out .now) (rw (all-sections z) at (c .before .before .before .before .before .before .before .before .before .pre .1 .1)) in let W₁ = writing-whole (lineSections z) (cellSections z) W₀ (c .before .before .write-line-sections .ensures) in writing-kept W₁)))
     (λ c. search needs)
-    (λ c κs. (record { ready = c .before .before .before .before .before .before .before .before .before .before .pre .0 .0; stands = c .before .before .before .before .before .before .before .before .before .before .pre .0 .1; palette-is = palette-taken _ (c .before .before .before .before .before .before .palette .ensures) ∙ ap N.palette (c .before .before .before .before .before .before .before .before .before .before .pre .0 .1 .colors-is) }, (c .before .before .before .before .before .before .before .before .before .before .pre .1 .0 .cells-are, writing-room (cellSections (puzzle (c .before .before .before .before .before .before .before .before .before .before .args .words .now))) [] (writing-whole (lineSections (puzzle (c .before .before .before .before .before .before .before .before .before .before .args .words .now))) (cellSections (puzzle (c .before .before .before .before .before .before .before .before .before .before .args .words .now))) (writing-first (lineSections (puzzle (c .before .before .before .before .before .before .before .before .before .before .args .words .now)) ++ cellSections (puzzle (c .before .before .before .before .before .before .before .before .before .before .args .words .now))) (c .before .before .before .before .before .before .before .before .before .before .args .out .now) (rw (all-sections (puzzle (c .before .before .before .before .before .before .before .before .before .before .args .words .now))) at (c .before .before .before .before .before .before .before .before .before .before .pre .1 .1))) (c .before .before .before .write-line-sections .ensures)))))
-    (λ c. omega (arith, writing-place (writing-next (cellSections (puzzle (c .before .before .before .before .before .before .before .before .before .before .before .before .args .words .now))) [] (writing-whole (lineSections (puzzle (c .before .before .before .before .before .before .before .before .before .before .before .before .args .words .now))) (cellSections (puzzle (c .before .before .before .before .before .before .before .before .before .before .before .before .args .words .now))) (writing-first (lineSections (puzzle (c .before .before .before .before .before .before .before .before .before .before .before .before .args .words .now)) ++ cellSections (puzzle (c .before .before .before .before .before .before .before .before .before .before .before .before .args .words .now))) (c .before .before .before .before .before .before .before .before .before .before .before .before .args .out .now) (rw (all-sections (puzzle (c .before .before .before .before .before .before .before .before .before .before .before .before .args .words .now))) at (c .before .before .before .before .before .before .before .before .before .before .before .before .pre .1 .1))) (c .before .before .before .before .before .write-line-sections .ensures)) (c .before .write-cell-sections .ensures)), writing-kept (writing-next (cellSections (puzzle (c .before .before .before .before .before .before .before .before .before .before .before .before .args .words .now))) [] (writing-whole (lineSections (puzzle (c .before .before .before .before .before .before .before .before .before .before .before .before .args .words .now))) (cellSections (puzzle (c .before .before .before .before .before .before .before .before .before .before .before .before .args .words .now))) (writing-first (lineSections (puzzle (c .before .before .before .before .before .before .before .before .before .before .before .before .args .words .now)) ++ cellSections (puzzle (c .before .before .before .before .before .before .before .before .before .before .before .before .args .words .now))) (c .before .before .before .before .before .before .before .before .before .before .before .before .args .out .now) (rw (all-sections (puzzle (c .before .before .before .before .before .before .before .before .before .before .before .before .args .words .now))) at (c .before .before .before .before .before .before .before .before .before .before .before .before .pre .1 .1))) (c .before .before .before .before .before .write-line-sections .ensures)) (c .before .write-cell-sections .ensures))))
-    (λ c. writing-kept (writing-next (cellSections (puzzle (c .before .before .before .before .before .before .before .before .before .before .before .before .args .words .now))) [] (writing-whole (lineSections (puzzle (c .before .before .before .before .before .before .before .before .before .before .before .before .args .words .now))) (cellSections (puzzle (c .before .before .before .before .before .before .before .before .before .before .before .before .args .words .now))) (writing-first (lineSections (puzzle (c .before .before .before .before .before .before .before .before .before .before .before .before .args .words .now)) ++ cellSections (puzzle (c .before .before .before .before .before .before .before .before .before .before .before .before .args .words .now))) (c .before .before .before .before .before .before .before .before .before .before .before .before .args .out .now) (rw (all-sections (puzzle (c .before .before .before .before .before .before .before .before .before .before .before .before .args .words .now))) at (c .before .before .before .before .before .before .before .before .before .before .before .before .pre .1 .1))) (c .before .before .before .before .before .write-line-sections .ensures)) (c .before .write-cell-sections .ensures)))
-    (λ c. rw (all-sections (puzzle (c .before .before .before .before .before .before .before .before .before .before .before .before .args .words .now))) (writing-done (writing-next (cellSections (puzzle (c .before .before .before .before .before .before .before .before .before .before .before .before .args .words .now))) [] (writing-whole (lineSections (puzzle (c .before .before .before .before .before .before .before .before .before .before .before .before .args .words .now))) (cellSections (puzzle (c .before .before .before .before .before .before .before .before .before .before .before .before .args .words .now))) (writing-first (lineSections (puzzle (c .before .before .before .before .before .before .before .before .before .before .before .before .args .words .now)) ++ cellSections (puzzle (c .before .before .before .before .before .before .before .before .before .before .before .before .args .words .now))) (c .before .before .before .before .before .before .before .before .before .before .before .before .args .out .now) (rw (all-sections (puzzle (c .before .before .before .before .before .before .before .before .before .before .before .before .args .words .now))) at (c .before .before .before .before .before .before .before .before .before .before .before .before .pre .1 .1))) (c .before .before .before .before .before .write-line-sections .ensures)) (c .before .write-cell-sections .ensures)))))
+    (λ c κs. let z = puzzle (c .before .before .before .before .before .before .before .before .before .before .args .words .now) in
+    let W₀ = writing-first (lineSections z ++ cellSections z) (c .before .before .before .before .before .before .before .before .before .before .args .out .now) (rw (all-sections z) at (c .before .before .before .before .before .before .before .before .before .before .pre .1 .1)) in
+    let W₁ = writing-whole (lineSections z) (cellSections z) W₀ (c .before .before .before .write-line-sections .ensures) in
+    (record { ready = c .before .before .before .before .before .before .before .before .before .before .pre .0 .0; stands = c .before .before .before .before .before .before .before .before .before .before .pre .0 .1; palette-is = palette-taken _ (c .before .before .before .before .before .before .palette .ensures) ∙ ap N.palette (c .before .before .before .before .before .before .before .before .before .before .pre .0 .1 .colors-is) }, (c .before .before .before .before .before .before .before .before .before .before .pre .1 .0 .cells-are, writing-room (cellSections z) [] W₁)))
+    (λ c. omega (arith, (let z = puzzle (c .before .before .before .before .before .before .before .before .before .before .before .before .args .words .now) in let W₀ = writing-first (lineSections z ++ cellSections z) (c .before .before .before .before .before .before .before .before .before .before .before .before .args .out .now) (rw (all-sections z) at (c .before .before .before .before .before .before .before .before .before .before .before .before .pre .1 .1)) in let W₁ = writing-whole (lineSections z) (cellSections z) W₀ (c .before .before .before .before .before .write-line-sections .ensures) in let W₂ = writing-next (cellSections z) [] W₁ (c .before .write-cell-sections .ensures) in writing-place W₂), (let z = puzzle (c .before .before .before .before .before .before .before .before .before .before .before .before .args .words .now) in let W₀ = writing-first (lineSections z ++ cellSections z) (c .before .before .before .before .before .before .before .before .before .before .before .before .args .out .now) (rw (all-sections z) at (c .before .before .before .before .before .before .before .before .before .before .before .before .pre .1 .1)) in let W₁ = writing-whole (lineSections z) (cellSections z) W₀ (c .before .before .before .before .before .write-line-sections .ensures) in let W₂ = writing-next (cellSections z) [] W₁ (c .before .write-cell-sections .ensures) in writing-kept W₂)))
+    (λ c. let z = puzzle (c .before .before .before .before .before .before .before .before .before .before .before .before .args .words .now) in
+    let W₀ = writing-first (lineSections z ++ cellSections z) (c .before .before .before .before .before .before .before .before .before .before .before .before .args .out .now) (rw (all-sections z) at (c .before .before .before .before .before .before .before .before .before .before .before .before .pre .1 .1)) in
+    let W₁ = writing-whole (lineSections z) (cellSections z) W₀ (c .before .before .before .before .before .write-line-sections .ensures) in
+    let W₂ = writing-next (cellSections z) [] W₁ (c .before .write-cell-sections .ensures) in
+    writing-kept W₂)
+    (λ c. let z = puzzle (c .before .before .before .before .before .before .before .before .before .before .before .before .args .words .now) in
+    let W₀ = writing-first (lineSections z ++ cellSections z) (c .before .before .before .before .before .before .before .before .before .before .before .before .args .out .now) (rw (all-sections z) at (c .before .before .before .before .before .before .before .before .before .before .before .before .pre .1 .1)) in
+    let W₁ = writing-whole (lineSections z) (cellSections z) W₀ (c .before .before .before .before .before .write-line-sections .ensures) in
+    let W₂ = writing-next (cellSections z) [] W₁ (c .before .write-cell-sections .ensures) in
+    rw (all-sections z) (writing-done W₂)))

@@ -3,16 +3,6 @@ use Rattle.counts.proofs.Countings.{line-small, blocks-are, once-are, o
 use native.Mathlib.Omega.{arith}
 use native.Mathlib.Nat.{mul-le-mul-right}
 use Prim.Native.Nat.{_-_}
-use mathlib.Core.Path.{refl}
-use Rattle.counts.proofs.Countings.{line-small, blocks-are, once-are, overlap-are, space-small, space-are}
-use native.Mathlib.Omega.{arith}
-use native.Mathlib.Nat.{mul-le-mul-right}
-use Prim.Native.Nat.{_-_}
-use mathlib.Core.Path.{refl}
-use Rattle.counts.proofs.Countings.{line-small, blocks-are, once-are, overlap-are, space-small, space-are}
-use native.Mathlib.Omega.{arith}
-use native.Mathlib.Nat.{mul-le-mul-right}
-use Prim.Native.Nat.{_-_}
 use borrow.Author.Needs.{needs}
 use Rattle.counts.proofs.line.line_count.Statement.{statement}
 use Rattle.counts.proofs.line.line_count.Tie as tie

@@ -1,7 +1,6 @@
-use Rattle.counts.proofs.Totals.{sums-small}
+use Rattle.counts.proofs.Totals.{sums-small, all-counted, cells-begin}
 use native.Mathlib.Omega.{arith}
 use Rattle.puzzles.specs.Checks.{puzzle}
-use Rattle.counts.proofs.Totals.{all-counted, cells-begin}
 use Rattle.counts.proofs.total.count_all.Statement.{statement}
 use Rattle.counts.proofs.total.count_all.Tie as tie
 
