@@ -80,7 +80,7 @@ fn color_clauses(
     cover_line(words, table, row, x, ask, found, out, to)
 }
 
-fn cell_color_clauses(
+fn cell_clauses(
     rule: Rule,
     words: &[u32],
     table: &[u32],
@@ -131,7 +131,7 @@ fn column_clauses(
 {
     let mut to = at;
     for y in 0..board.height {
-        to = cell_color_clauses(rule, words, table, board, palette, x, y, found, out, to);
+        to = cell_clauses(rule, words, table, board, palette, x, y, found, out, to);
     }
     to
 }

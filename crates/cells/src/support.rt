@@ -29,7 +29,7 @@ fn put_found(found: &[usize], out: &mut [i32], at: usize) -> usize
 }
 
 // 7: a cell that has the colour is covered.
-fn support_clause(found: &[usize], v: usize, out: &mut [i32], at: usize) -> usize
+fn cell_color_clauses(found: &[usize], v: usize, out: &mut [i32], at: usize) -> usize
     requires { ⌜ AreVariables (now found) × IsVariable v ⌝ }
     requires { ⌜ length (now found) ≤ 64 ⌝ }
     requires { ⌜ at + length (clausesWords (ruled Color v (now found))) ≤ length (now out) ⌝ }
@@ -42,7 +42,7 @@ fn support_clause(found: &[usize], v: usize, out: &mut [i32], at: usize) -> usiz
 }
 
 // 8: a cell that is covered has the colour.
-fn space_clauses(found: &[usize], v: usize, out: &mut [i32], at: usize) -> usize
+fn cell_space_clauses(found: &[usize], v: usize, out: &mut [i32], at: usize) -> usize
     requires { ⌜ AreVariables (now found) × IsVariable v ⌝ }
     requires { ⌜ at + length (clausesWords (ruled Space v (now found))) ≤ length (now out) ⌝ }
     ensures { λ r. ⌜ Wrote (clausesWords (ruled Space v (now (found .entry)))) (now (out .entry)) at (now (out .exit)) r ⌝ }
@@ -61,7 +61,7 @@ pub fn rule_clauses(rule: Rule, found: &[usize], v: usize, out: &mut [i32], at: 
     ensures { λ r. ⌜ Wrote (clausesWords (ruled rule v (now (found .entry)))) (now (out .entry)) at (now (out .exit)) r ⌝ }
 {
     match rule {
-        Rule::Color => support_clause(found, v, out, at),
-        Rule::Space => space_clauses(found, v, out, at),
+        Rule::Color => cell_color_clauses(found, v, out, at),
+        Rule::Space => cell_space_clauses(found, v, out, at),
     }
 }

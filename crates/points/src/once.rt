@@ -13,7 +13,7 @@ ghost use Rattle.cells.specs.Given.{Shows};
 ghost use Rattle.points.specs.Points.{columnOnce};
 
 // Of column x, on a board of k colours.
-fn column_points(board: Board, k: usize, x: usize, out: &mut [i32], at: usize) -> usize
+fn point_once_clauses(board: Board, k: usize, x: usize, out: &mut [i32], at: usize) -> usize
     requires { ⌜ ((z : Puzzle) × Shows board k z) ⌝ }
     requires { ⌜ x < board .width ⌝ }
     requires { ⌜ at + length (clausesWords (columnOnce board k x)) ≤ length (now out) ⌝ }
@@ -37,7 +37,7 @@ pub fn write_points(board: Board, k: usize, count: usize, out: &mut [i32]) -> us
     out[0] = number(count);
     let mut to = 1;
     for x in 0..board.width {
-        to = column_points(board, k, x, out, to);
+        to = point_once_clauses(board, k, x, out, to);
     }
     to
 }

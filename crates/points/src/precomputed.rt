@@ -61,7 +61,13 @@ fn precomputed_cell(mask: u32, palette: &[u32], v: usize, out: &mut [i32], at: u
 }
 
 // All cells, whose variables begin at v.
-fn precomputed_cells(masks: &[u32], palette: &[u32], v: usize, out: &mut [i32], at: usize) -> usize
+fn precomputed_cells_clauses(
+    masks: &[u32],
+    palette: &[u32],
+    v: usize,
+    out: &mut [i32],
+    at: usize,
+) -> usize
     requires { ⌜ (0 < v) × (v + length (now masks) * length (now palette) ≤ largest + 1) ⌝ }
     requires { ⌜ at + length (clausesWords (ofMasks (now palette) (now masks) v)) ≤ length (now out) ⌝ }
     ensures { λ r. ⌜ Wrote (clausesWords (ofMasks (now (palette .entry)) (now (masks .entry)) v)) (now (out .entry)) at (now (out .exit)) r ⌝ }
@@ -89,5 +95,5 @@ pub fn write_precomputed(
 {
     out[0] = number(count);
     let cells = board.cells;
-    precomputed_cells(&words[cells + 1..], palette, board.first, out, 1)
+    precomputed_cells_clauses(&words[cells + 1..], palette, board.first, out, 1)
 }

@@ -26,6 +26,6 @@ column-clauses-spec =
     (λ c κs. (c .before .before .before .before .before .before .before .pre .0, ((c .before .before .before .before .before .before .before .pre .1 .0, omega arith), emit-room (c .before .before .before .loop .inv .1) (omega arith))))
     (λ c. search needs)
     (λ c. search needs)
-    (λ c. (c .before .before .before .before .before .loop .inv .0, emit-next (c .before .before .before .before .before .loop .inv .1) (omega arith) (c .before .cell-color-clauses .ensures)))
+    (λ c. (c .before .before .before .before .before .loop .inv .0, emit-next (c .before .before .before .before .before .loop .inv .1) (omega arith) (c .before .cell-clauses .ensures)))
     (λ c. emit-kept (c .before .loop .inv .1))
     (λ c. say-done (c .before .before .before .before .before .args .board .height) (ofCell (puzzle (c .before .before .before .before .before .args .words .now)) (c .before .before .before .before .before .args .rule) (c .before .before .before .before .before .args .x)) (c .before .loop .inv .1) (omega arith)))

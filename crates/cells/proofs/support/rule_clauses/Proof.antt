@@ -11,6 +11,6 @@ rule-clauses-spec =
     (λ c. search needs)
     (λ c κs. (c .before .before .before .before .pre .0, rw (c .before .enum-told2 .given .1) at (c .before .before .before .before .pre .1 .1)))
     (λ c. search needs)
-    (λ c. rw (c .before .before .before .enum-told .given .1) (c .before .support-clause .ensures))
+    (λ c. rw (c .before .before .before .enum-told .given .1) (c .before .cell-color-clauses .ensures))
     (λ c. search needs)
-    (λ c. rw (c .before .before .before .enum-told2 .given .1) (c .before .space-clauses .ensures)))
+    (λ c. rw (c .before .before .before .enum-told2 .given .1) (c .before .cell-space-clauses .ensures)))

@@ -31,6 +31,6 @@ write-points-spec =
     (λ c κs. ((c .before .before .before .before .pre .0 .0, c .before .before .before .before .pre .0 .1), (omega arith, emit-room (c .before .before .loop .inv .1) (omega arith))))
     (λ c. search needs)
     (λ c. search needs)
-    (λ c. (c .before .before .before .before .loop .inv .0, emit-next (c .before .before .before .before .loop .inv .1) (omega arith) (c .before .column-points .ensures)))
+    (λ c. (c .before .before .before .before .loop .inv .0, emit-next (c .before .before .before .before .loop .inv .1) (omega arith) (c .before .point-once-clauses .ensures)))
     (λ c. emit-kept (c .before .loop .inv .1) ∙ simp length-set)
     (λ c. λ z S. rw (once-same (c .before .before .before .pre .0 .1) S) at (count-done _ _ (columns-once (c .before .before .before .pre .0 .1)) (c .before .before .before .args .out .now) (c .before .before .before .pre .0 .3) _ (word-is (c .before .before .number .result) (c .before .before .number .ok) ∙ c .before .before .number .ensures ∙ ap pos (c .before .before .before .pre .0 .2)) (c .before .loop .inv .1) (omega arith))))

@@ -21,5 +21,5 @@ write-precomputed-spec =
     (λ c. omega (arith, cells-within (c .before .before .before .pre .0)))
     (λ c. search needs)
     (λ c κs. (masks-variables (c .before .before .before .before .before .pre .0), rw (← rows-are (c .before .before .before .before .before .pre .0)) (clauses-room _ (c .before .before .before .before .before .args .out .now) (c .before .before .before .before .before .pre .1 .1) _)))
-    (λ c. c .before .precomputed-cells .kept .1 .1 .1 .0 ∙ simp length-set)
-    (λ c. section-wrote _ _ (c .before .before .before .before .before .before .before .pre .1 .1) _ (word-is (c .before .before .before .before .number .result) (c .before .before .before .before .number .ok) ∙ c .before .before .before .before .number .ensures ∙ ap pos (c .before .before .before .before .before .before .before .pre .1 .0 .0)) (rw (rows-are (c .before .before .before .before .before .before .before .pre .0)) (c .before .precomputed-cells .ensures))))
+    (λ c. c .before .precomputed-cells-clauses .kept .1 .1 .1 .0 ∙ simp length-set)
+    (λ c. section-wrote _ _ (c .before .before .before .before .before .before .before .pre .1 .1) _ (word-is (c .before .before .before .before .number .result) (c .before .before .before .before .number .ok) ∙ c .before .before .before .before .number .ensures ∙ ap pos (c .before .before .before .before .before .before .before .pre .1 .0 .0)) (rw (rows-are (c .before .before .before .before .before .before .before .pre .0)) (c .before .precomputed-cells-clauses .ensures))))

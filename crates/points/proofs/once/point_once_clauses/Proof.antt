@@ -5,8 +5,8 @@ use Rattle.sections.specs.Sections.{clausesWords, atMostOne}
 use Rattle.cells.proofs.BoardCells.{cell-place, cell-variables}
 use Rattle.points.proofs.PointCells.{once-first, once-done}
 use borrow.Author.Needs.{needs}
-use Rattle.points.proofs.once.column_points.Statement.{statement}
-use Rattle.points.proofs.once.column_points.Tie as tie
+use Rattle.points.proofs.once.point_once_clauses.Statement.{statement}
+use Rattle.points.proofs.once.point_once_clauses.Tie as tie
 
 abbrev Inv-loop : tie.InvT-loop
 Inv-loop k x out₀ at width first to₀ y₀ y-end out to y = Emitting y-end (λ j. clausesWords (atMostOne (first + (j * width + x) * k) k)) out₀ at out to y
@@ -14,8 +14,8 @@ Inv-loop k x out₀ at width first to₀ y₀ y-end out to y = Emitting y-end (�
 abbrev μ-loop : tie.MeasureT-loop
 μ-loop k x out₀ at width first to₀ y₀ y-end out to y = y-end - y
 
-pub column-points-spec : {M : Type 1} → statement M
-column-points-spec =
+pub point-once-clauses-spec : {M : Type 1} → statement M
+point-once-clauses-spec =
     tie.close
     (tie.spec
     Inv-loop

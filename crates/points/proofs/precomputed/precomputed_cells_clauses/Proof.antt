@@ -8,8 +8,8 @@ use Rattle.sections.specs.Sections.{clausesWords}
 use Rattle.points.specs.Points.{ofMask}
 use Rattle.points.proofs.PointCells.{masks-first, masks-done}
 use borrow.Author.Needs.{needs}
-use Rattle.points.proofs.precomputed.precomputed_cells.Statement.{statement}
-use Rattle.points.proofs.precomputed.precomputed_cells.Tie as tie
+use Rattle.points.proofs.precomputed.precomputed_cells_clauses.Statement.{statement}
+use Rattle.points.proofs.precomputed.precomputed_cells_clauses.Tie as tie
 
 abbrev Inv-loop : tie.InvT-loop
 Inv-loop masks palette v out₀ at k to₀ i₀ i-end out to i = (i-end ≡ length masks) × Emitting (length masks) (λ j. clausesWords (ofMask palette (getD masks j 0) (v + j * length palette))) out₀ at out to i
@@ -17,8 +17,8 @@ Inv-loop masks palette v out₀ at k to₀ i₀ i-end out to i = (i-end ≡ leng
 abbrev μ-loop : tie.MeasureT-loop
 μ-loop masks palette v out₀ at k to₀ i₀ i-end out to i = length masks - i
 
-pub precomputed-cells-spec : {M : Type 1} → statement M
-precomputed-cells-spec =
+pub precomputed-cells-clauses-spec : {M : Type 1} → statement M
+precomputed-cells-clauses-spec =
     tie.close
     (tie.spec
     Inv-loop

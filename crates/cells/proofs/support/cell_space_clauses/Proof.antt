@@ -11,8 +11,8 @@ use Rattle.sections.proofs.ClauseLists.{said}
 use Rattle.sections.proofs.Rows.{two-room}
 use Rattle.cells.proofs.Ruling.{space-first, space-done}
 use borrow.Author.Needs.{needs}
-use Rattle.cells.proofs.support.space_clauses.Statement.{statement}
-use Rattle.cells.proofs.support.space_clauses.Tie as tie
+use Rattle.cells.proofs.support.cell_space_clauses.Statement.{statement}
+use Rattle.cells.proofs.support.cell_space_clauses.Tie as tie
 
 abbrev Inv-loop : tie.InvT-loop
 Inv-loop found v out₀ at to₀ i₀ i-end out to i = (i-end ≡ length found) × Emitting (length found) (λ k. clausesWords ((negative (getD found k 0) ∷ positive v ∷ []) ∷ [])) out₀ at out to i
@@ -20,8 +20,8 @@ Inv-loop found v out₀ at to₀ i₀ i-end out to i = (i-end ≡ length found) 
 abbrev μ-loop : tie.MeasureT-loop
 μ-loop found v out₀ at to₀ i₀ i-end out to i = length found - i
 
-pub space-clauses-spec : {M : Type 1} → statement M
-space-clauses-spec =
+pub cell-space-clauses-spec : {M : Type 1} → statement M
+cell-space-clauses-spec =
     tie.close
     (tie.spec
     Inv-loop

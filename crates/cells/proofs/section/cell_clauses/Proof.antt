@@ -7,8 +7,8 @@ use lib.ListN.{length}
 use Rattle.lists.proofs.Emitting.{emit-kept}
 use Rattle.puzzles.specs.Checks.{puzzle}
 use borrow.Author.Needs.{needs}
-use Rattle.cells.proofs.section.cell_color_clauses.Statement.{statement}
-use Rattle.cells.proofs.section.cell_color_clauses.Tie as tie
+use Rattle.cells.proofs.section.cell_clauses.Statement.{statement}
+use Rattle.cells.proofs.section.cell_clauses.Tie as tie
 
 abbrev Inv-loop : tie.InvT-loop
 Inv-loop rule words table palette x y found₀ out₀ at width first to₀ r₀ r-end found out to r = (r-end ≡ length palette) × Coloring (puzzle words) rule x y out₀ at out to r
@@ -16,8 +16,8 @@ Inv-loop rule words table palette x y found₀ out₀ at width first to₀ r₀ 
 abbrev μ-loop : tie.MeasureT-loop
 μ-loop rule words table palette x y found₀ out₀ at width first to₀ r₀ r-end found out to r = length palette - r
 
-pub cell-color-clauses-spec : {M : Type 1} → statement M
-cell-color-clauses-spec =
+pub cell-clauses-spec : {M : Type 1} → statement M
+cell-clauses-spec =
     tie.close
     (tie.spec
     Inv-loop

@@ -5,14 +5,14 @@ use native.Mathlib.Omega.{arith}
 use lib.ListN.{length, length-set}
 use Rattle.literals.proofs.Words.{word-is}
 use borrow.Author.Needs.{needs}
-use Rattle.cells.proofs.support.support_clause.Statement.{statement}
-use Rattle.cells.proofs.support.support_clause.Tie as tie
+use Rattle.cells.proofs.support.cell_color_clauses.Statement.{statement}
+use Rattle.cells.proofs.support.cell_color_clauses.Tie as tie
 
 space : (c : tie.After-no) → (c .before .before .put-found .result < length (c .before .before .put-found .last .1 .0)) × (length (c .before .before .put-found .last .1 .0) ≡ length (c .before .before .before .before .before .before .args .out .now))
 space c = (support-space _ _ (c .before .before .before .before .before .before .args .out .now) _ (c .before .before .before .before .before .before .pre .1 .1) _ (c .before .before .put-found .ensures), support-kept _ _ (c .before .before .before .before .before .before .args .out .now) _ (c .before .before .before .before .before .before .pre .1 .1) _ (c .before .before .put-found .ensures))
 
-pub support-clause-spec : {M : Type 1} → statement M
-support-clause-spec =
+pub cell-color-clauses-spec : {M : Type 1} → statement M
+cell-color-clauses-spec =
     tie.close
     (tie.spec
     (λ c. search needs)
