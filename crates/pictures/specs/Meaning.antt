@@ -1,0 +1,91 @@
+-- What each of document 01's ten families says by itself, in the words of its table.
+use mathlib.Core.Path.{_≡_}
+use mathlib.Core.Logic.{_↔_}
+use mathlib.Core.Bool.{Bool, true, false, not}
+use Prim.Native.Nat.{ℕ, _+_, _<_}
+use Rattle.lines.specs.Clue.{gap}
+use Rattle.lines.specs.Arrangement.{at, covers, clash}
+use Rattle.puzzles.specs.Puzzle.{Puzzle, width, height}
+use Rattle.puzzles.specs.Colors.{solved}
+use Rattle.bits.specs.Bits.{bit}
+use Rattle.numbering.specs.Variables.{Line, lineAt, many, placedAt, variable, hues, hue, cellVariable}
+use Rattle.placement.specs.Placement.{ofColumns, ofRows}
+use Rattle.placement.specs.declared.rule.Rule.the-variants.{Positions, Once, Overlap}
+use Rattle.cells.specs.Cells.{ofCells, pointOnce, precomputedCells, maskAt}
+use Rattle.cells.specs.declared.rule.Rule.the-variants.{Color, Space}
+use Rattle.pictures.specs.Truth.{Assignment, Satisfies}
+
+abbrev pub NotBoth : Assignment → ℕ → ℕ → Type 0
+NotBoth β u v = β u ≡ true → β v ≡ true → ⊥
+
+-- ---- of a line
+
+-- 1, 2: each block has some position
+abbrev pub SomePosition : Assignment → Line → Type 0
+SomePosition β L = (b : ℕ) → b < many L → (i : ℕ) × (i < L .positions) × (β (variable L b i) ≡ true)
+
+-- 3, 4: no block has two
+abbrev pub OnePosition : Assignment → Line → Type 0
+OnePosition β L = (b i j : ℕ) → b < many L → i < j → j < L .positions → NotBoth β (variable L b i) (variable L b j)
+
+-- 5, 6: no two blocks are in conflict
+abbrev pub NoConflict : Assignment → Line → Type 0
+NoConflict β L =
+    (a b i j : ℕ) → a < b → b < many L → i < L .positions → j < L .positions
+    → clash gap (placedAt L a i) (placedAt L b j) ≡ true → NotBoth β (variable L a i) (variable L b j)
+
+-- block b has colour c, and at its position i it covers the cell t
+pub record Covers (L : Line) (c t b i : ℕ) : Type 0 where
+  pub block-in : b < many L
+  pub position-in : i < L .positions
+  pub color-is : at (L .runs) b .color ≡ c
+  pub covered : covers (placedAt L b i) t ≡ true
+
+-- 7: of a cell variable v, in a line
+abbrev pub IsCovered : Assignment → Line → ℕ → ℕ → ℕ → Type 0
+IsCovered β L c t v = β v ≡ true → (b : ℕ) × (i : ℕ) × Covers L c t b i × (β (variable L b i) ≡ true)
+
+-- 8: likewise
+abbrev pub IsColored : Assignment → Line → ℕ → ℕ → ℕ → Type 0
+IsColored β L c t v = (b i : ℕ) → Covers L c t b i → β (variable L b i) ≡ true → β v ≡ true
+
+-- ---- of the puzzle
+
+module _ (z : Puzzle) where
+  abbrev pub EachColumn : (Line → Type 0) → Type 0
+  EachColumn P = (x : ℕ) → x < width z → P (lineAt z x)
+
+  abbrev pub EachRow : (Line → Type 0) → Type 0
+  EachRow P = (y : ℕ) → y < height z → P (lineAt z (width z + y))
+
+  -- per cell, colour: in its column and in its row
+  abbrev pub EachCell : (Line → ℕ → ℕ → ℕ → Type 0) → Type 0
+  EachCell P =
+      (x y r : ℕ) → x < width z → y < height z → r < hues z
+      → P (lineAt z x) (hue z r) y (cellVariable z x y r) × P (lineAt z (width z + y)) (hue z r) x (cellVariable z x y r)
+
+  -- 9: no cell has two colours
+  abbrev pub OneColor : Assignment → Type 0
+  OneColor β = (x y r s : ℕ) → x < width z → y < height z → r < s → s < hues z → NotBoth β (cellVariable z x y r) (cellVariable z x y s)
+
+  -- 10: a solved colour is there, nothing is in a solved blank, and no excluded colour in an unsolved cell
+  pub record Unit (mask c : ℕ) (told : Bool) : Type 0 where
+    pub solved-color : solved mask ≡ true → bit mask 0 ≡ false → bit mask c ≡ true → told ≡ true
+    pub solved-blank : solved mask ≡ true → bit mask 0 ≡ true → told ≡ false
+    pub excluded : solved mask ≡ false → bit mask c ≡ false → told ≡ false
+
+  abbrev pub Units : Assignment → Type 0
+  Units β = (x y r : ℕ) → x < width z → y < height z → r < hues z → Unit (maskAt z x y) (hue z r) (β (cellVariable z x y r))
+
+  -- the ten families, each by itself
+  pub record Meanings (β : Assignment) : Type 0 where
+    pub one : Satisfies β (ofColumns z Positions) ↔ EachColumn (SomePosition β)
+    pub two : Satisfies β (ofRows z Positions) ↔ EachRow (SomePosition β)
+    pub three : Satisfies β (ofColumns z Once) ↔ EachColumn (OnePosition β)
+    pub four : Satisfies β (ofRows z Once) ↔ EachRow (OnePosition β)
+    pub five : Satisfies β (ofColumns z Overlap) ↔ EachColumn (NoConflict β)
+    pub six : Satisfies β (ofRows z Overlap) ↔ EachRow (NoConflict β)
+    pub seven : Satisfies β (ofCells z Color) ↔ EachCell (IsCovered β)
+    pub eight : Satisfies β (ofCells z Space) ↔ EachCell (IsColored β)
+    pub nine : Satisfies β (pointOnce z) ↔ OneColor β
+    pub ten : Satisfies β (precomputedCells z) ↔ Units β

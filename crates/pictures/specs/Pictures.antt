@@ -1,0 +1,118 @@
+-- Condition 3: what a picture is, and what the clauses of a puzzle say about pictures.
+use mathlib.Core.Path.{_≡_}
+use mathlib.Core.Logic.{_↔_, _⊎_}
+use mathlib.Core.Bool.{Bool, true, false, _||_, cond}
+use mathlib.Core.List.{List, [], _∷_, _++_, map}
+use Prim.Native.Nat.{ℕ, suc, _+_, _-_, _*_, _≤_, _<_}
+use lib.Dec.{eqb}
+use lib.ListN.{length, getD}
+use Rattle.lists.specs.Each.{each, tab, when}
+use Rattle.literals.specs.Literals.{negative}
+use Rattle.bits.specs.Bits.{bit}
+use Rattle.sections.specs.Sections.{Clause}
+use Rattle.lines.specs.Line.{runs}
+use Rattle.puzzles.specs.Puzzle.{Puzzle, width, height, lines}
+use Rattle.puzzles.specs.Colors.{solved}
+use Rattle.puzzles.specs.Checks.{colors}
+use Rattle.boards.specs.Table.{firstAt}
+use Rattle.numbering.specs.Variables.{palette, hues, hue, cellVariable, variables}
+use Rattle.counts.specs.Families.{clauses}
+use Rattle.grids.specs.Grid.{row, column}
+use Rattle.pictures.specs.Truth.{Assignment, Satisfies}
+
+-- ---- pictures
+
+-- a cell may be blank or have a colour of K
+abbrev pub IsColor : Puzzle → ℕ → Type 0
+IsColor z c = (c ≡ 0) ⊎ (bit (colors z) c ≡ true)
+
+-- a grid of blanks and row colours, row by row
+pub record Grid (z : Puzzle) (grid : List ℕ) : Type 0 where
+  pub cells : length grid ≡ width z * height z
+  pub known : (i : ℕ) → i < length grid → IsColor z (getD grid i 0)
+
+-- what an unsolved mask permits: blank, and the colours that it has
+unfoldable pub permits : ℕ → ℕ → Bool
+permits mask c = eqb c 0 || bit mask c
+
+-- a solved cell has the colour of the one bit
+unfoldable pub obeys : ℕ → ℕ → Bool
+obeys mask c = cond (solved mask) (bit mask c) (permits mask c)
+
+-- every line reads as its clue, and every cell obeys its mask
+pub record Picture (z : Puzzle) (grid : List ℕ) : Type 0 where
+  pub columns-read : (x : ℕ) → x < width z → runs (column (width z) (height z) grid x) ≡ getD (z .columns) x []
+  pub rows-read : (y : ℕ) → y < height z → runs (row (width z) grid y) ≡ getD (z .rows) y []
+  pub masks-obeyed : (i : ℕ) → i < length grid → obeys (getD (z .masks) i 0) (getD grid i 0) ≡ true
+
+-- ---- assignments
+
+-- all ten families are true
+abbrev pub Solves : Puzzle → Assignment → Type 0
+Solves z β = Satisfies β (clauses z)
+
+-- it extends the grid: a cell variable is true exactly where the cell has its colour
+abbrev pub Extends : Puzzle → List ℕ → Assignment → Type 0
+Extends z grid β =
+    (x y r : ℕ) → x < width z → y < height z → r < hues z
+    → β (cellVariable z x y r) ≡ eqb (getD grid (y * width z + x) 0) (hue z r)
+
+-- the first of the colours whose variable is true, from v on; blank for none
+unfoldable pub colorOf : Assignment → ℕ → List ℕ → ℕ
+colorOf β v [] = 0
+colorOf β v (c ∷ cs) = cond (β v) c (colorOf β (suc v) cs)
+
+-- the first cell variable
+abbrev pub firstCell : Puzzle → ℕ
+firstCell z = firstAt z (lines z)
+
+-- the grid of an assignment
+unfoldable pub shown : Puzzle → Assignment → List ℕ
+shown z β = tab (width z * height z) (λ i. colorOf β (firstCell z + i * hues z) (palette (colors z)))
+
+-- the blocking clause: each true cell variable negated, ascending
+unfoldable pub blocking : Puzzle → Assignment → Clause
+blocking z β = each (width z * height z * hues z) (λ k. when (β (firstCell z + k)) (negative (firstCell z + k) ∷ []))
+
+-- a model is one byte per variable, and its assignment
+pub record Model (z : Puzzle) (model : List ℕ) : Type 0 where
+  pub size : length model ≡ variables z
+  pub bytes : (i : ℕ) → i < length model → getD model i 0 ≤ 1
+
+abbrev pub value : List ℕ → Assignment
+value model v = eqb (getD model (v - 1) 0) 1
+
+-- ---- what is proved of every puzzle whose words are accepted
+
+-- Picture: a grid extends to an assignment that satisfies the ten families exactly when it is a picture
+abbrev pub PictureIs : Puzzle → Type 0
+PictureIs z = (grid : List ℕ) → Grid z grid → ((β : Assignment) × Solves z β × Extends z grid β) ↔ Picture z grid
+
+-- Unique: there is only one such assignment of the variables 1 to V
+abbrev pub Unique : Puzzle → Type 0
+Unique z =
+    (grid : List ℕ) (β γ : Assignment) → Solves z β → Solves z γ → Extends z grid β → Extends z grid γ
+    → (v : ℕ) → 0 < v → v ≤ variables z → β v ≡ γ v
+
+-- Blocking: with the blocking clauses of any list of them, exactly the pictures that are not in the list remain
+abbrev pub member : List Assignment → ℕ → Assignment
+member L i = getD L i (λ v. false)
+
+abbrev pub Blocking : Puzzle → Type 0
+Blocking z =
+    (L : List Assignment) → ((i : ℕ) → i < length L → Solves z (member L i))
+    → (grid : List ℕ) → Grid z grid
+    → ((β : Assignment) × Satisfies β (clauses z ++ map (blocking z) L) × Extends z grid β)
+    ↔ (Picture z grid × ((i : ℕ) → i < length L → shown z (member L i) ≡ grid → ⊥))
+
+-- Count: the models that satisfy the ten families and the pictures are one to one
+pub record OneToOne (z : Puzzle) : Type 0 where
+  pub shows : (β : Assignment) → Solves z β → Grid z (shown z β) × Picture z (shown z β)
+  pub once : (m n : List ℕ) → Model z m → Model z n → Solves z (value m) → Solves z (value n) → shown z (value m) ≡ shown z (value n) → m ≡ n
+  pub all : (grid : List ℕ) → Grid z grid → Picture z grid → (m : List ℕ) × Model z m × Solves z (value m) × (shown z (value m) ≡ grid)
+
+pub record Theorem (z : Puzzle) : Type 0 where
+  pub picture : PictureIs z
+  pub unique : Unique z
+  pub blocked : Blocking z
+  pub count : OneToOne z
