@@ -9,3 +9,4 @@ pub mod Packing
 pub mod Ranges
 pub mod Reading
 pub mod Rendering
+pub mod SameCells
