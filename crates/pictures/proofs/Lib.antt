@@ -1,0 +1,2 @@
+pub mod ReadGrids
+pub mod SmallPuzzles
