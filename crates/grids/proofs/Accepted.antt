@@ -36,15 +36,15 @@ module _ (w h : ℕ) (grid : List ℕ) where
   unfolding columnClues
   columns-length = length-tab w _
 
-  columns-at : (x : ℕ) → x < w → getD (columnClues w h grid) x [] ≡ runs (column w h grid x)
+  pub columns-at : (x : ℕ) → x < w → getD (columnClues w h grid) x [] ≡ runs (column w h grid x)
   unfolding columnClues
   columns-at x i = getD-tab w _ [] x i
 
-  width-is : width (gridPuzzle w h grid) ≡ w
+  pub width-is : width (gridPuzzle w h grid) ≡ w
   unfolding gridPuzzle
   width-is = columns-length
 
-  height-is : height (gridPuzzle w h grid) ≡ h
+  pub height-is : height (gridPuzzle w h grid) ≡ h
   unfolding gridPuzzle
   height-is = rows-length w h grid
 
@@ -123,11 +123,11 @@ module _ (w h : ℕ) (grid : List ℕ) {n : ℕ} (e : accepted n ≡ gridChecks 
   unfolding gridPuzzle
   masks-length = length-tab (w * h) _
 
-  mask-at : (i : ℕ) → i < w * h → getD (gridPuzzle w h grid .masks) i 0 ≡ withBit (colors (gridPuzzle w h grid)) 0
+  pub mask-at : (i : ℕ) → i < w * h → getD (gridPuzzle w h grid .masks) i 0 ≡ withBit (colors (gridPuzzle w h grid)) 0
   unfolding gridPuzzle
   mask-at i l = getD-tab (w * h) _ 0 i l
 
-  known : {c : ℕ} → 0 < c → Seen grid c → bit (colors (gridPuzzle w h grid)) c ≡ true
+  pub known : {c : ℕ} → 0 < c → Seen grid c → bit (colors (gridPuzzle w h grid)) c ≡ true
   unfolding gridPuzzle
   known {c} p C = seen-known S c p (omega (arith, seen-most C)) C
 

@@ -1,1 +1,14 @@
+pub mod TrueClauses
+pub mod EachFamily
 pub mod ColorsOfK
+pub mod Masks
+pub mod LineArranged
+pub mod LineReads
+pub mod GridModel
+pub mod ShownGrid
+pub mod Pictured
+pub mod Determined
+pub mod Blocked
+pub mod Theorem
+pub mod ReadGrids
+pub mod SmallPuzzles

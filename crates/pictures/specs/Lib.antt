@@ -1,3 +1,4 @@
 pub mod Truth
 pub mod Meaning
 pub mod Pictures
+pub mod Examples
