@@ -1,1 +1,2 @@
 pub mod TrueClauses
+pub mod EachFamily
