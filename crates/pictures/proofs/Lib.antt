@@ -1,1 +1,2 @@
 pub mod ColorsOfK
+pub mod Masks
