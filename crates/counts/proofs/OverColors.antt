@@ -1,13 +1,14 @@
 -- Sums over the colours of a set.
-use mathlib.Core.Path.{_≡_, refl, ap, _∙_}
+use mathlib.Core.Path.{_≡_, refl, sym, ap, _∙_}
 use mathlib.Core.Bool.{Bool, true, false, cond}
 use mathlib.Core.List.{List, [], _∷_, _++_}
 use Prim.Native.Nat.{ℕ, zero, suc, _+_, _-_, _≤_, _<_}
 use native.Mathlib.Omega.{arith}
+use native.Mathlib.Nat.{mul-one}
 use lib.ListN.{length, getD, length-append, List·getD-append}
 use lib.Seq.{getD-append-add}
 use Rattle.lists.specs.Each.{each, when, sum}
-use Rattle.lists.proofs.Sums.{sum-same, sum-plus, sum-one}
+use Rattle.lists.proofs.Sums.{sum-same, sum-constant, sum-plus, sum-one}
 use Rattle.bits.specs.Bits.{bit}
 use Rattle.numbering.specs.Variables.{palette}
 
@@ -53,3 +54,7 @@ module _ (f : ℕ → ℕ) where
       none : (b : Bool) (d : ℕ) → f d ≡ 0 → cond b (f d) 0 ≡ 0
       none true d e = e
       none false d e = refl
+
+-- a set has as many colours as bits from 1 on
+pub palette-count : (K : ℕ) → length (palette K) ≡ sum 31 (λ k. cond (bit K (suc k)) 1 0)
+palette-count K = sym (sum-constant (length (palette K)) 1 ∙ mul-one (length (palette K))) ∙ over-colors (λ c. 1) K

@@ -28,7 +28,7 @@ use Rattle.puzzles.proofs.ColorSets.{set-none, set-some, good-known}
 use Rattle.numbering.specs.Variables.{palette, hues, hue, cellVariable}
 use Rattle.cells.specs.Cells.{precomputed, maskAt, precomputedCells}
 use Rattle.counts.specs.Formulas.{excluded, unitsBy, unitCount}
-use Rattle.counts.proofs.OverColors.{over-colors}
+use Rattle.counts.proofs.OverColors.{over-colors, palette-count}
 use Rattle.counts.proofs.Literals.{HasEach, one-has, each-has, when-has}
 
 -- how many bits of a mask are set, and how many of them from bit 1 on
@@ -54,9 +54,7 @@ module _ (K : ℕ) (small : K < 2 ^ 32) (blank : bit K 0 ≡ false) where
   set-ones m l b = omega (arith, powers-count m l, rw b at (bits-set m))
 
   pub palette-ones : length (palette K) ≡ ones K
-  palette-ones =
-      sym (sum-constant (length (palette K)) 1 ∙ mul-one (length (palette K)))
-      ∙ over-colors (λ c. 1) K ∙ sym (set-ones K small blank)
+  palette-ones = palette-count K ∙ sym (set-ones K small blank)
 
   included-ones : (mask : ℕ) → ones (bitAnd K mask) ≡ included K mask
   unfolding included
@@ -118,14 +116,11 @@ module _ (z : Puzzle) (G : Good z) where
     | no e ↦ omega arith
   ]
     where
-      count : hues z ≡ sum 31 (λ k. cond (bit (colors z) (suc k)) 1 0)
-      count = sym (sum-constant (hues z) 1 ∙ mul-one (hues z)) ∙ over-colors (λ c. 1) (colors z)
-
       none : hues z ≡ 0 → (k : ℕ) → k < 32 → bit (colors z) k ≡ true → bit 0 k ≡ true
       none e zero h b = absurd (false≢true (sym (good-known z G .blank) ∙ b))
       none e (suc k) h b =
           let v : _≡_ {A = ℕ} (cond (bit (colors z) (suc k)) 1 0) 1 = rw b in
-          absurd (omega (arith, e, v, count, sum-at 31 (λ k. cond (bit (colors z) (suc k)) 1 0) k (omega arith)))
+          absurd (omega (arith, e, v, palette-count (colors z), sum-at 31 (λ k. cond (bit (colors z) (suc k)) 1 0) k (omega arith)))
 
 -- ---- a cell solved with a colour of the set
 
@@ -167,16 +162,19 @@ module _ (K mask : ℕ) (small : K < 2 ^ 32) (s : solved mask ≡ true) (b : bit
       less false true = omega arith
       less false false = omega arith
 
-  one-least : included K mask ≡ 0 → ⊥
-  unfolding included
-  one-least e = met-some (same-bits met 0 met-small (omega arith) none (λ k _ q. absurd (omega (arith, bit-some 0 k q))))
+  -- the mask has a colour of the set
+  pub solved-some : ((k : ℕ) → k < 31 → bit K (suc k) ≡ true → bit mask (suc k) ≡ true → ⊥) → ⊥
+  solved-some n = met-some (same-bits met 0 met-small (omega arith) none (λ k _ q. absurd (omega (arith, bit-some 0 k q))))
     where
       none : (k : ℕ) → k < 32 → bit met k ≡ true → bit 0 k ≡ true
       none zero h q = absurd (false≢true (sym b ∙ both (bit mask 0) (bit (bitOr K 1) 0) (sym (bit-and mask (bitOr K 1) 0) ∙ q) .0))
-      none (suc k) h q =
-          let t = met-bit k q in
-          let v : _≡_ {A = ℕ} (cond (bit K (suc k)) (cond (bit mask (suc k)) 1 0) 0) 1 = rw (t .0, t .1) in
-          absurd (omega (arith, e, v, sum-at 31 (λ k. cond (bit K (suc k)) (cond (bit mask (suc k)) 1 0) 0) k (omega arith)))
+      none (suc k) h q = absurd (n k (omega arith) (met-bit k q .0) (met-bit k q .1))
+
+  one-least : included K mask ≡ 0 → ⊥
+  unfolding included
+  one-least e = solved-some (λ k h p q.
+      let v : _≡_ {A = ℕ} (cond (bit K (suc k)) (cond (bit mask (suc k)) 1 0) 0) 1 = rw (p, q) in
+      omega (arith, e, v, sum-at 31 (λ k. cond (bit K (suc k)) (cond (bit mask (suc k)) 1 0) 0) k h))
 
   pub solved-one : included K mask ≡ 1
   solved-one = elim (ℕ-discrete (included K mask) 0) [

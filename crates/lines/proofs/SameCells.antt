@@ -1,4 +1,4 @@
--- A line is known by its clue and where its coloured cells are among those of another line with that clue.
+-- Two lines with one clue are equal where the second has the coloured cells of the first: it has no more of them.
 use mathlib.Core.Path.{_≡_, refl, ap}
 use mathlib.Core.Bool.{Bool, true, false}
 use mathlib.Core.List.{List, [], _∷_, _++_}

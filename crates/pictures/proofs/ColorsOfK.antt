@@ -29,13 +29,13 @@ record Listed (K n : ℕ) (l : List ℕ) : Type 0 where
   all : (c : ℕ) → Hue K n c → (r : ℕ) × (r < length l) × (getD l r 0 ≡ c)
   rising : (r s : ℕ) → r < s → s < length l → getD l r 0 < getD l s 0
 
+wider : {K n c : ℕ} → Hue K n c → Hue K (suc n) c
+wider H = record { some = H .some; most = omega (arith, H .most); known = H .known }
+
+narrower : {K n c : ℕ} → Hue K (suc n) c → (c ≡ suc n → ⊥) → Hue K n c
+narrower H p = record { some = H .some; most = omega (arith, H .most); known = H .known }
+
 module _ (K n : ℕ) (l : List ℕ) (L : Listed K n l) where
-  wider : {c : ℕ} → Hue K n c → Hue K (suc n) c
-  wider H = record { some = H .some; most = omega (arith, H .most); known = H .known }
-
-  narrower : {c : ℕ} → Hue K (suc n) c → (c ≡ suc n → ⊥) → Hue K n c
-  narrower H p = record { some = H .some; most = omega (arith, H .most); known = H .known }
-
   abbrev longer : List ℕ
   longer = l ++ (suc n ∷ [])
 
@@ -80,9 +80,14 @@ listed K zero = record {
 }
 listed K (suc n) = listed-next K n _ (listed K n) (bit K (suc n)) refl
 
-palette-listed : (K : ℕ) → Listed K 31 (palette K)
-unfolding palette
-palette-listed K = listed K 31
+module _ (K : ℕ) where
+  palette-listed : Listed K 31 (palette K)
+  unfolding palette
+  palette-listed = listed K 31
+
+  -- each colour of K is in the palette
+  pub palette-all : (c : ℕ) → 0 < c → c ≤ 31 → bit K c ≡ true → (r : ℕ) × (r < length (palette K)) × (getD (palette K) r 0 ≡ c)
+  palette-all c h i e = palette-listed .all c (record { some = h; most = i; known = e })
 
 -- ---- the colours of a puzzle
 
@@ -90,21 +95,21 @@ module _ (z : Puzzle) where
   L : Listed (colors z) 31 (palette (colors z))
   L = palette-listed (colors z)
 
-  -- a colour of the palette is one of K
+  -- the palette has colours of K
   pub hue-known : (r : ℕ) → r < hues z → (0 < hue z r) × (bit (colors z) (hue z r) ≡ true)
   hue-known r h = (L .hues-only r h .some, L .hues-only r h .known)
 
   pub hue-most : (r : ℕ) → r < hues z → hue z r ≤ 31
   hue-most r h = L .hues-only r h .most
 
-  -- a colour of K is in the palette
+  -- all of them
   pub known-hue : (c : ℕ) → 0 < c → bit (colors z) c ≡ true → (r : ℕ) × (r < hues z) × (hue z r ≡ c)
   known-hue c h e = elim (decLt c 32) [
-    | yes i ↦ L .all c (record { some = h; most = omega arith; known = e })
+    | yes i ↦ palette-all (colors z) c h (omega arith) e
     | no i ↦ absurd (false≢true (sym (bit-beyond (colors z) c (omega (arith, set-within (z .rows), pow-mono {i = 32} {j = c} (omega arith)))) ∙ e))
   ]
 
-  -- and only once
+  -- each once
   pub hue-once : (r s : ℕ) → r < hues z → s < hues z → hue z r ≡ hue z s → r ≡ s
   hue-once r s h i e = elim (decLt r s) [
     | yes j ↦ absurd (omega (arith, L .rising r s j i))
