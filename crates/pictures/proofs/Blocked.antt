@@ -2,11 +2,10 @@
 use mathlib.Core.Path.{_≡_, refl, sym, ap, _∙_}
 use mathlib.Core.Logic.{_↔_, inl, inr}
 use mathlib.Core.Bool.{Bool, true, false, true≢false}
-use mathlib.Core.List.{List}
-use Prim.Native.Nat.{ℕ, _+_, _*_, _≤_, _<_}
+use Prim.Native.Nat.{ℕ, _+_, _*_, _<_}
 use native.Mathlib.Omega.{arith}
 use lib.Dec.{eqb}
-use lib.ListN.{length, getD}
+use lib.ListN.{getD}
 use borrow.Author.Tests.{eq-eqb, eqb-true}
 use Rattle.lines.proofs.SameCells.{same-cells}
 use Rattle.puzzles.specs.Puzzle.{Puzzle, width, height, lines}
@@ -16,10 +15,10 @@ use Rattle.numbering.proofs.Bounds.{first-some}
 use Rattle.grids.specs.Grid.{row}
 use Rattle.grids.proofs.Cells.{cell-within, row-length, row-cell}
 use Rattle.pictures.specs.Truth.{Assignment, clauseTrue}
-use Rattle.pictures.specs.Pictures.{Picture, Extends, firstCell, shown, blocking}
+use Rattle.pictures.specs.Meaning.{Said}
+use Rattle.pictures.specs.Pictures.{Extends, firstCell, shown, blocking}
 use Rattle.pictures.proofs.ColorsOfK.{known-hue}
 use Rattle.pictures.proofs.TrueClauses.{Holds, some-each-means, some-when-means, no-means}
-use Rattle.pictures.proofs.EachFamily.{Said}
 use Rattle.pictures.proofs.ShownGrid.{each-color, cell-variable, same-grid, shown-is-grid, shown-extends}
 use Rattle.pictures.proofs.Pictured.{said-picture}
 

@@ -27,8 +27,7 @@ use Rattle.cells.specs.declared.rule.Rule as D
 use Rattle.cells.specs.declared.rule.Rule.the-variants.{Color, Space}
 use Rattle.counts.specs.Families.{families, joined, clauses}
 use Rattle.pictures.specs.Truth.{Assignment, Satisfies}
-use Rattle.pictures.specs.Meaning as M
-use Rattle.pictures.specs.Meaning.{SomePosition, OnePosition, NoConflict, Covers, IsCovered, IsColored, EachColumn, EachRow, EachCell, OneColor, Units, Meanings}
+use Rattle.pictures.specs.Meaning.{SomePosition, OnePosition, NoConflict, Covers, IsCovered, IsColored, EachColumn, EachRow, EachCell, OneColor, MaskSays, Units, Said, Meanings}
 use Rattle.pictures.proofs.TrueClauses.{Holds, none-means, one-means, append-means, cond-means, when-means, each-means, tab-means, pairs-means, product-means, some-when-means, some-each-means, yes-means, no-means, if-means, if-last-means, not-both-means, least-means, most-means}
 
 -- ---- the positions that cover a cell, as literals or clauses are made of them
@@ -136,7 +135,7 @@ module _ (β : Assignment) where
     points-mean = Iff·trans (by-column-means _ (λ x y. most-means β (cellFirst z x y) (hues z) (cell-first x y))) (λ h x y r s l m. h x y l m r s, λ h x y l m r s. h x y r s l m)
 
     -- 10
-    unit-means : (mask c v : ℕ) → 0 < v → Satisfies β (precomputed mask c v) ↔ M.Unit z mask c (β v)
+    unit-means : (mask c v : ℕ) → 0 < v → Satisfies β (precomputed mask c v) ↔ MaskSays mask c (β v)
     unfolding precomputed
     unit-means mask c v h =
         Iff·trans
@@ -169,19 +168,7 @@ meanings z β = record {
   ten = units-mean β z;
 }
 
--- all that the ten families say
-pub record Said (z : Puzzle) (β : Assignment) : Type 0 where
-  pub some-columns : EachColumn z (SomePosition β)
-  pub some-rows : EachRow z (SomePosition β)
-  pub one-columns : EachColumn z (OnePosition β)
-  pub one-rows : EachRow z (OnePosition β)
-  pub apart-columns : EachColumn z (NoConflict β)
-  pub apart-rows : EachRow z (NoConflict β)
-  pub covered : EachCell z (IsCovered β)
-  pub colored : EachCell z (IsColored β)
-  pub one-color : OneColor z β
-  pub units : Units z β
-
+-- all ten together
 pub solved-said : (z : Puzzle) (β : Assignment) → Satisfies β (clauses z) ↔ Said z β
 unfolding families joined
 solved-said z β =

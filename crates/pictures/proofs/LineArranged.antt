@@ -2,20 +2,20 @@
 use mathlib.Core.Path.{_≡_, refl, sym, _∙_}
 use mathlib.Core.Bool.{Bool, true, false, true≢false}
 use mathlib.Core.List.{List}
-use Prim.Native.Nat.{ℕ, suc, _+_, _≤_, _<_}
+use Prim.Native.Nat.{ℕ, _≤_, _<_}
 use native.Mathlib.Omega.{arith}
-use native.Mathlib.Decide.{ℕ-discrete, decLt}
+use native.Mathlib.Decide.{decLt}
 use lib.Dec.{eqb}
 use lib.ListN.{length, getD}
 use borrow.Author.Tests.{eq-eqb, eqb-true}
 use Rattle.lists.proofs.Tests.{same-tests}
 use Rattle.lines.specs.Clue.{Block, packed, minSpace, positions}
-use Rattle.lines.specs.Arrangement.{Gap, Proper, Arranged, at, clash, covers, render}
+use Rattle.lines.specs.Arrangement.{Gap, Proper, Arranged, clash, covers, render}
 use Rattle.lines.proofs.Packing.{packed-length}
 use Rattle.lines.proofs.Rendering.{cell-covered, covered-cell}
 use Rattle.numbering.specs.Variables.{Line, many, placedAt, variable}
 use Rattle.pictures.specs.Truth.{Assignment}
-use Rattle.pictures.specs.Meaning.{NotBoth, SomePosition, OnePosition, Covers, IsCovered, IsColored}
+use Rattle.pictures.specs.Meaning.{NotBoth, SomePosition, OnePosition, IsCovered, IsColored}
 
 module _ {g : ℕ → ℕ → ℕ} (G : Gap g) {bs : List Block} (p : Proper bs) {n : ℕ} (fits : minSpace g bs ≤ n) (first : ℕ) (β : Assignment) where
   abbrev L : Line

@@ -1,9 +1,8 @@
 -- One line of a puzzle: the families say of it, and of the variables of its cells, that the cells read as its clue.
 use mathlib.Core.Path.{_≡_, refl, sym, ap, _∙_}
-use mathlib.Core.Logic.{⊎-elim, inl, inr}
-use mathlib.Core.Bool.{true, false, true≢false}
+use mathlib.Core.Logic.{inl, inr}
 use mathlib.Core.List.{List}
-use Prim.Native.Nat.{ℕ, suc, _+_, _≤_, _<_}
+use Prim.Native.Nat.{ℕ, _<_}
 use native.Mathlib.Omega.{arith}
 use native.Mathlib.Decide.{decLt}
 use lib.Dec.{eqb}
@@ -26,7 +25,7 @@ use Rattle.pictures.specs.Truth.{Assignment}
 use Rattle.pictures.specs.Meaning.{SomePosition, OnePosition, NoConflict, IsCovered, IsColored}
 use Rattle.pictures.specs.Pictures.{IsColor}
 use Rattle.pictures.proofs.ColorsOfK.{hue-known, known-hue}
-use Rattle.pictures.proofs.LineArranged.{Stand, stands-arranged, arranged-some, arranged-one, arranged-apart, cell-shown, shown-covered, shown-colored}
+use Rattle.pictures.proofs.LineArranged.{stands-arranged, arranged-some, arranged-one, arranged-apart, cell-shown, shown-covered, shown-colored}
 
 -- colours of K are the same where they are the same to each colour's test
 pub same-color : (z : Puzzle) (c d : ℕ) → IsColor z c → IsColor z d → ((r : ℕ) → r < hues z → eqb c (hue z r) ≡ eqb d (hue z r)) → c ≡ d

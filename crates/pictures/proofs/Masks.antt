@@ -15,7 +15,7 @@ use Rattle.puzzles.proofs.ColorSets.{set-within}
 use Rattle.numbering.specs.Variables.{palette, hues, hue}
 use Rattle.counts.proofs.OverColors.{palette-count}
 use Rattle.counts.proofs.UnitClauses.{bits-set, solved-some}
-use Rattle.pictures.specs.Meaning.{Unit}
+use Rattle.pictures.specs.Meaning.{MaskSays}
 use Rattle.pictures.specs.Pictures.{IsColor, permits, obeys}
 use Rattle.pictures.proofs.ColorsOfK.{palette-all, hue-known, hue-most, known-hue}
 
@@ -75,7 +75,7 @@ module _ (mask c : ℕ) where
 
 -- the unit clauses of a cell of colour c, of its r-th variable
 abbrev pub UnitOf : Puzzle → ℕ → ℕ → ℕ → Type 0
-UnitOf z mask c r = Unit z mask (hue z r) (eqb c (hue z r))
+UnitOf z mask c r = MaskSays mask (hue z r) (eqb c (hue z r))
 
 module _ (z : Puzzle) (mask c : ℕ) (C : IsColor z c) where
   module _ (o : offSolved (colors z) mask ≡ false) (U : (r : ℕ) → r < hues z → UnitOf z mask c r) where

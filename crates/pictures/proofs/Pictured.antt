@@ -2,25 +2,24 @@
 use mathlib.Core.Path.{_≡_, sym, ap, _∙_}
 use mathlib.Core.Bool.{true}
 use mathlib.Core.List.{List}
-use Prim.Native.Nat.{ℕ, suc, _+_, _-_, _*_, _≤_, _<_}
+use Prim.Native.Nat.{ℕ, _+_, _-_, _*_, _≤_, _<_}
 use native.Mathlib.Omega.{arith}
-use lib.Dec.{eqb, ltb}
+use lib.Dec.{eqb}
 use lib.ListN.{length, getD}
 use borrow.Author.Tests.{lt-ltb, le-ltb, eqb-true}
-use Rattle.lines.specs.Line.{runs}
 use Rattle.lines.specs.Clue.{gap}
 use Rattle.lines.proofs.Packing.{packed-length}
-use Rattle.puzzles.specs.Puzzle.{Puzzle, width, height, lines, clueAt, lengthAt}
+use Rattle.puzzles.specs.Puzzle.{Puzzle, width, height, lines, clueAt}
 use Rattle.puzzles.specs.Good.{Good}
 use Rattle.puzzles.proofs.Lines.{clue-column, length-column, clue-row, length-row}
-use Rattle.numbering.specs.Variables.{lineAt, many, variable, hues, hue, cellVariable}
+use Rattle.numbering.specs.Variables.{lineAt, many, variable, hue, cellVariable}
 use Rattle.numbering.specs.Names.{Name, position, cell, IsName, number}
 use Rattle.grids.specs.Grid.{row, column}
 use Rattle.grids.proofs.Cells.{cell-within, row-length, row-cell, column-length, column-cell}
 use Rattle.pictures.specs.Truth.{Assignment}
+use Rattle.pictures.specs.Meaning.{Said}
 use Rattle.pictures.specs.Pictures.{IsColor, Grid, Picture, Extends, obeys}
 use Rattle.pictures.proofs.ColorsOfK.{hue-once}
-use Rattle.pictures.proofs.EachFamily.{Said}
 use Rattle.pictures.proofs.LineReads.{LineSaid, LineCells, offsets, said-reads, reads-said}
 use Rattle.pictures.proofs.Masks.{units-obeyed, obeyed-units}
 use Rattle.pictures.proofs.GridModel.{lineOf, told}

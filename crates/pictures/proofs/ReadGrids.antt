@@ -1,5 +1,5 @@
 -- A grid that `read_grid` accepts is a picture of the words that it writes.
-use mathlib.Core.Path.{_≡_, refl, sym, ap₂, _∙_}
+use mathlib.Core.Path.{_≡_, refl, sym, ap, ap₂, _∙_}
 use mathlib.Core.Bool.{Bool, true, false, cond, or-true}
 use mathlib.Core.List.{List}
 use mathlib.Core.Logic.{inl, inr, ⊎-elim}
@@ -11,13 +11,13 @@ use Rattle.refusals.specs.Verdict.{accepted}
 use Rattle.bits.specs.Bits.{bit, withBit}
 use Rattle.bits.proofs.SetBits.{with-same, with-keeps}
 use Rattle.puzzles.specs.Colors.{solved}
-use Rattle.puzzles.specs.Checks.{colors, puzzle}
-use Rattle.grids.specs.Grid.{gridPuzzle, gridChecks, gridWords}
+use Rattle.puzzles.specs.Checks.{colors}
+use Rattle.grids.specs.Grid.{gridPuzzle, gridChecks}
 use Rattle.grids.specs.Sized.{Sized}
 use Rattle.grids.proofs.Checking.{grid-sized}
 use Rattle.grids.proofs.GridColors.{rows-at}
-use Rattle.grids.proofs.Accepted.{columns-at, width-is, height-is, mask-at, known, grid-read}
-use Rattle.pictures.specs.Pictures.{IsColor, Grid, permits, obeys, Picture}
+use Rattle.grids.proofs.Accepted.{columns-at, width-is, height-is, mask-at, known, grid-accepted, grid-read}
+use Rattle.pictures.specs.Pictures.{IsColor, Grid, permits, obeys, Picture, GridsRead}
 
 -- a colour whose bit the mask has obeys it, solved or not
 obeys-bit : (mask c : ℕ) → bit mask c ≡ true → obeys mask c ≡ true
@@ -54,6 +54,9 @@ module _ (w h : ℕ) (grid : List ℕ) {n : ℕ} (e : accepted n ≡ gridChecks 
     masks-obeyed = λ i l. rw (mask-at w h grid e i (omega (arith, S .cells))) (obeys-bit _ _ (color-masked _ (color-known i l)));
   }
 
-  -- what `read_grid` writes has the grid as a picture
-  pub grid-picture : Grid (puzzle (gridWords w h grid)) grid × Picture (puzzle (gridWords w h grid)) grid
-  grid-picture = rw (grid-read w h grid e) (grid-of, picture-of)
+pub grids-read : GridsRead
+grids-read w h grid n e = (
+  ap (λ z. accepted (colors z)) (grid-read w h grid e) ∙ sym (grid-accepted w h grid e),
+  rw (grid-read w h grid e) (grid-of w h grid e),
+  rw (grid-read w h grid e) (picture-of w h grid e),
+)

@@ -24,9 +24,10 @@ use Rattle.cells.specs.Cells as Cells
 use Rattle.cells.specs.Cells.{covering, ofColor, byColumn, precomputed, precomputedCells}
 use Rattle.counts.specs.Families.{families, joined, clauses, buffer}
 use Rattle.grids.specs.Grid.{row, column, sizeChecks, gridChecks, rowClues, columnClues, gridPuzzle, gridWords}
-use Rattle.pictures.specs.Pictures.{Grid, Picture}
-use Rattle.pictures.specs.Examples.{p8, p10, p11, full, left, falling, rising, level}
-use Rattle.pictures.proofs.ReadGrids.{grid-picture}
+use Rattle.pictures.specs.Truth.{literalTrue, clauseTrue, allTrue}
+use Rattle.pictures.specs.Pictures.{Grid, Picture, Solves, colorOf, shown, blocking, value}
+use Rattle.pictures.specs.Examples.{p8, p10, p11, p11-model, p12, p12-model, full, left, falling, rising, level}
+use Rattle.pictures.proofs.ReadGrids.{grids-read}
 
 -- `read_grid` accepts the grid and writes these words
 pub record Read (w h : ℕ) (grid ws : List ℕ) : Type 0 where
@@ -52,6 +53,13 @@ pub record Computed : Type 0 where
   pub left-read : Read 2 1 left p10
   pub falling-read : Read 2 2 falling p11
   pub rising-read : Read 2 2 rising p11
+  -- a model of P11, its picture and its blocking clause; and those of P12, where the clause is empty
+  pub p11-solved : Solves (puzzle p11) (value p11-model)
+  pub p11-shown : shown (puzzle p11) (value p11-model) ≡ falling
+  pub p11-blocking : blocking (puzzle p11) (value p11-model) ≡ negative 9 ∷ negative 12 ∷ []
+  pub p12-accepted : puzzleChecks p12 ≡ accepted 2
+  pub p12-solved : Solves (puzzle p12) (value p12-model)
+  pub p12-blocking : blocking (puzzle p12) (value p12-model) ≡ []
   -- the first row of this one is not a block of size 1
   pub level-off : Picture (puzzle p11) level → ⊥
 
@@ -64,6 +72,7 @@ unfolding
     firstAt lineAt palette cellFirst variables atLeastOne atMostOne clauseWords clausesWords sectionWords sectionsWords
     blockPositions blockOnce nonOverlap Placement.ruled ofLines covering Cells.ruled ofColor byColumn precomputed precomputedCells families joined
     row column sizeChecks gridChecks rowClues columnClues gridPuzzle gridWords
+    p12 literalTrue clauseTrue allTrue colorOf shown blocking
 computed = record {
   p8-accepted = refl;
   p10-accepted = refl;
@@ -76,6 +85,12 @@ computed = record {
   left-read = record { checked = refl; written = refl };
   falling-read = record { checked = refl; written = refl };
   rising-read = record { checked = refl; written = refl };
+  p11-solved = refl;
+  p11-shown = refl;
+  p11-blocking = refl;
+  p12-accepted = refl;
+  p12-solved = refl;
+  p12-blocking = refl;
   level-off = λ P. omega (arith, ap (λ bs. blockAt bs 0 .size) (P .rows-read 0 (omega arith)));
 }
 
@@ -85,7 +100,7 @@ same-words = computed .falling-read .written ∙ sym (computed .rising-read .wri
 
 -- what a grid is read as has it as a picture
 pictured : {w h : ℕ} {grid ws : List ℕ} → Read w h grid ws → Grid (puzzle ws) grid × Picture (puzzle ws) grid
-pictured {w} {h} {grid} R = subst (λ ws. Grid (puzzle ws) grid × Picture (puzzle ws) grid) (R .written) (grid-picture w h grid (R .checked))
+pictured {w} {h} {grid} R = subst (λ ws. Grid (puzzle ws) grid × Picture (puzzle ws) grid) (R .written) (let P = grids-read w h grid 0 (R .checked) in (P .1, P .2))
 
 pub p8-picture : Grid (puzzle p8) full × Picture (puzzle p8) full
 p8-picture = pictured (computed .full-read)

@@ -1,6 +1,6 @@
 -- Condition 3, of every puzzle whose words are accepted.
-use mathlib.Core.Path.{_≡_, refl, sym, ap, subst, _∙_}
-use mathlib.Core.Bool.{Bool, true, false}
+use mathlib.Core.Path.{_≡_, sym, subst, _∙_}
+use mathlib.Core.Bool.{false}
 use mathlib.Core.Logic.{_↔_}
 use mathlib.Core.List.{List, _++_, map}
 use Prim.Native.Nat.{ℕ, suc, _+_, _-_, _≤_, _<_}
@@ -10,17 +10,17 @@ use lib.Dec.{eqb}
 use lib.ListN.{length, getD}
 use lib.Seq.{ext-getD}
 use borrow.Author.Tests.{eq-eqb, eqb-true}
-use Rattle.refusals.specs.Verdict.{accepted}
 use Rattle.puzzles.specs.Puzzle.{Puzzle}
-use Rattle.puzzles.specs.Checks.{puzzle, puzzleChecks}
+use Rattle.puzzles.specs.Checks.{puzzle}
 use Rattle.puzzles.specs.Good.{Good}
 use Rattle.puzzles.proofs.Accepting.{accepted-is}
 use Rattle.numbering.specs.Variables.{variables}
 use Rattle.counts.specs.Families.{clauses}
 use Rattle.pictures.specs.Truth.{Assignment, Satisfies}
-use Rattle.pictures.specs.Pictures.{Grid, Picture, Solves, Extends, Model, value, shown, blocking, member, PictureIs, Unique, Blocking, OneToOne, Theorem}
+use Rattle.pictures.specs.Meaning.{Said}
+use Rattle.pictures.specs.Pictures.{Grid, Picture, Solves, Extends, Model, value, shown, blocking, member, PictureIs, Unique, Blocking, OneToOne, Condition3}
 use Rattle.pictures.proofs.TrueClauses.{Holds, append-means, map-means}
-use Rattle.pictures.proofs.EachFamily.{Said, solved-said}
+use Rattle.pictures.proofs.EachFamily.{solved-said}
 use Rattle.pictures.proofs.GridModel.{model, is-model, model-told}
 use Rattle.pictures.proofs.ShownGrid.{shown-is-grid, shown-extends, extends-shown}
 use Rattle.pictures.proofs.Pictured.{said-picture, told-extends, picture-said}
@@ -100,7 +100,7 @@ module _ (z : Puzzle) (G : Good z) where
     all = λ grid Q P. (model z grid, is-model z grid, model-solves Q P, shows (value (model z grid)) (model-solves Q P) Q (model-extends Q P));
   }
 
-pub theorem : (ws : List ℕ) {n : ℕ} → accepted n ≡ puzzleChecks ws → Theorem (puzzle ws)
-theorem ws e =
+pub condition-3 : Condition3
+condition-3 ws n e =
     let G = accepted-is ws e .good in
     record { picture = picture-is (puzzle ws) G; unique = unique (puzzle ws) G; blocked = blocked (puzzle ws) G; count = one-to-one (puzzle ws) G }

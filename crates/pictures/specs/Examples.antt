@@ -14,6 +14,17 @@ p10 = 2 ∷ 1 ∷ 1 ∷ 1 ∷ 0 ∷ 1 ∷ 1 ∷ 1 ∷ 1 ∷ 2 ∷ 3 ∷ 3 ∷ []
 unfoldable pub p11 : List ℕ
 p11 = 2 ∷ 1 ∷ 1 ∷ 1 ∷ 1 ∷ 1 ∷ 1 ∷ 2 ∷ 1 ∷ 1 ∷ 1 ∷ 1 ∷ 1 ∷ 1 ∷ 4 ∷ 3 ∷ 3 ∷ 3 ∷ 3 ∷ []
 
+-- and its model of the falling diagonal
+abbrev pub p11-model : List ℕ
+p11-model = 1 ∷ 0 ∷ 0 ∷ 1 ∷ 1 ∷ 0 ∷ 0 ∷ 1 ∷ 1 ∷ 0 ∷ 0 ∷ 1 ∷ []
+
+-- P12: one cell, empty clues, mask 3, and its model
+unfoldable pub p12 : List ℕ
+p12 = 1 ∷ 0 ∷ 1 ∷ 0 ∷ 1 ∷ 3 ∷ []
+
+abbrev pub p12-model : List ℕ
+p12-model = 0 ∷ []
+
 -- the picture of P8, and that of P10
 abbrev pub full : List ℕ
 full = 1 ∷ []

@@ -1,7 +1,7 @@
 -- What each of document 01's ten families says by itself, in the words of its table.
 use mathlib.Core.Path.{_≡_}
 use mathlib.Core.Logic.{_↔_}
-use mathlib.Core.Bool.{Bool, true, false, not}
+use mathlib.Core.Bool.{Bool, true, false}
 use Prim.Native.Nat.{ℕ, _+_, _<_}
 use Rattle.lines.specs.Clue.{gap}
 use Rattle.lines.specs.Arrangement.{at, covers, clash}
@@ -49,6 +49,12 @@ IsCovered β L c t v = β v ≡ true → (b : ℕ) × (i : ℕ) × Covers L c t 
 abbrev pub IsColored : Assignment → Line → ℕ → ℕ → ℕ → Type 0
 IsColored β L c t v = (b i : ℕ) → Covers L c t b i → β (variable L b i) ≡ true → β v ≡ true
 
+-- 10, of a cell's mask and a colour's variable: a solved colour is there, nothing is in a solved blank, and no excluded colour in an unsolved cell
+pub record MaskSays (mask c : ℕ) (told : Bool) : Type 0 where
+  pub solved-color : solved mask ≡ true → bit mask 0 ≡ false → bit mask c ≡ true → told ≡ true
+  pub solved-blank : solved mask ≡ true → bit mask 0 ≡ true → told ≡ false
+  pub excluded : solved mask ≡ false → bit mask c ≡ false → told ≡ false
+
 -- ---- of the puzzle
 
 module _ (z : Puzzle) where
@@ -68,14 +74,22 @@ module _ (z : Puzzle) where
   abbrev pub OneColor : Assignment → Type 0
   OneColor β = (x y r s : ℕ) → x < width z → y < height z → r < s → s < hues z → NotBoth β (cellVariable z x y r) (cellVariable z x y s)
 
-  -- 10: a solved colour is there, nothing is in a solved blank, and no excluded colour in an unsolved cell
-  pub record Unit (mask c : ℕ) (told : Bool) : Type 0 where
-    pub solved-color : solved mask ≡ true → bit mask 0 ≡ false → bit mask c ≡ true → told ≡ true
-    pub solved-blank : solved mask ≡ true → bit mask 0 ≡ true → told ≡ false
-    pub excluded : solved mask ≡ false → bit mask c ≡ false → told ≡ false
-
+  -- 10
   abbrev pub Units : Assignment → Type 0
-  Units β = (x y r : ℕ) → x < width z → y < height z → r < hues z → Unit (maskAt z x y) (hue z r) (β (cellVariable z x y r))
+  Units β = (x y r : ℕ) → x < width z → y < height z → r < hues z → MaskSays (maskAt z x y) (hue z r) (β (cellVariable z x y r))
+
+  -- all that they say
+  pub record Said (β : Assignment) : Type 0 where
+    pub some-columns : EachColumn (SomePosition β)
+    pub some-rows : EachRow (SomePosition β)
+    pub one-columns : EachColumn (OnePosition β)
+    pub one-rows : EachRow (OnePosition β)
+    pub apart-columns : EachColumn (NoConflict β)
+    pub apart-rows : EachRow (NoConflict β)
+    pub covered : EachCell (IsCovered β)
+    pub colored : EachCell (IsColored β)
+    pub one-color : OneColor β
+    pub units : Units β
 
   -- the ten families, each by itself
   pub record Meanings (β : Assignment) : Type 0 where

@@ -7,17 +7,18 @@ use Prim.Native.Nat.{ℕ, suc, _+_, _-_, _*_, _≤_, _<_}
 use lib.Dec.{eqb}
 use lib.ListN.{length, getD}
 use Rattle.lists.specs.Each.{each, tab, when}
+use Rattle.refusals.specs.Verdict.{accepted}
 use Rattle.literals.specs.Literals.{negative}
 use Rattle.bits.specs.Bits.{bit}
 use Rattle.sections.specs.Sections.{Clause}
 use Rattle.lines.specs.Line.{runs}
 use Rattle.puzzles.specs.Puzzle.{Puzzle, width, height, lines}
 use Rattle.puzzles.specs.Colors.{solved}
-use Rattle.puzzles.specs.Checks.{colors}
+use Rattle.puzzles.specs.Checks.{colors, puzzle, puzzleChecks}
 use Rattle.boards.specs.Table.{firstAt}
 use Rattle.numbering.specs.Variables.{palette, hues, hue, cellVariable, variables}
 use Rattle.counts.specs.Families.{clauses}
-use Rattle.grids.specs.Grid.{row, column}
+use Rattle.grids.specs.Grid.{row, column, gridChecks, gridWords}
 use Rattle.pictures.specs.Truth.{Assignment, Satisfies}
 
 -- ---- pictures
@@ -82,7 +83,7 @@ pub record Model (z : Puzzle) (model : List ℕ) : Type 0 where
 abbrev pub value : List ℕ → Assignment
 value model v = eqb (getD model (v - 1) 0) 1
 
--- ---- what is proved of every puzzle whose words are accepted
+-- ---- the theorem, of every puzzle whose words are accepted
 
 -- Picture: a grid extends to an assignment that satisfies the ten families exactly when it is a picture
 abbrev pub PictureIs : Puzzle → Type 0
@@ -116,3 +117,13 @@ pub record Theorem (z : Puzzle) : Type 0 where
   pub unique : Unique z
   pub blocked : Blocking z
   pub count : OneToOne z
+
+abbrev pub Condition3 : Type 0
+Condition3 = (ws : List ℕ) (n : ℕ) → accepted n ≡ puzzleChecks ws → Theorem (puzzle ws)
+
+-- Not vacuous: what `read_grid` writes of a grid is accepted, and the grid is a picture of it
+abbrev pub GridsRead : Type 0
+GridsRead =
+    (w h : ℕ) (grid : List ℕ) (n : ℕ) → accepted n ≡ gridChecks w h grid
+    → (accepted (colors (puzzle (gridWords w h grid))) ≡ puzzleChecks (gridWords w h grid))
+    × Grid (puzzle (gridWords w h grid)) grid × Picture (puzzle (gridWords w h grid)) grid
