@@ -21,11 +21,11 @@ module _ {g : ℕ → ℕ → ℕ} (G : Gap g) {bs : List Block} (p : Proper bs)
   abbrev L : Line
   L = record { first = first; positions = positions g n bs; runs = packed g bs }
 
-  abbrev pub Apart : Type 0
+  abbrev Apart : Type 0
   Apart = (a b i j : ℕ) → a < b → b < many L → i < L .positions → j < L .positions → clash g (placedAt L a i) (placedAt L b j) ≡ true → NotBoth β (variable L a i) (variable L b j)
 
   -- the true positions are o
-  abbrev pub Stand : (ℕ → ℕ) → Type 0
+  abbrev Stand : (ℕ → ℕ) → Type 0
   Stand o = (b i : ℕ) → b < many L → i < L .positions → β (variable L b i) ≡ eqb i (o b)
 
   in-line : (b : ℕ) → b < length bs → b < many L

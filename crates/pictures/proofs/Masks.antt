@@ -74,7 +74,7 @@ module _ (mask c : ℕ) where
 -- ---- the theorem
 
 -- the unit clauses of a cell of colour c, of its r-th variable
-abbrev pub UnitOf : Puzzle → ℕ → ℕ → ℕ → Type 0
+abbrev UnitOf : Puzzle → ℕ → ℕ → ℕ → Type 0
 UnitOf z mask c r = MaskSays mask (hue z r) (eqb c (hue z r))
 
 module _ (z : Puzzle) (mask c : ℕ) (C : IsColor z c) where

@@ -38,7 +38,7 @@ same-byte a b h k e = elim (ℕ-discrete a 1) [
 ]
 
 -- models that agree at every variable are equal
-pub same-model : (z : Puzzle) (m n : List ℕ) → Model z m → Model z n → ((v : ℕ) → 0 < v → v ≤ variables z → value m v ≡ value n v) → m ≡ n
+same-model : (z : Puzzle) (m n : List ℕ) → Model z m → Model z n → ((v : ℕ) → 0 < v → v ≤ variables z → value m v ≡ value n v) → m ≡ n
 same-model z m n M N same =
     ext-getD 0 m n (M .size ∙ sym (N .size)) (λ i h.
     let e : suc i - 1 ≡ i = omega arith in
