@@ -93,7 +93,7 @@ module _ (z : Puzzle) (G : Good z) where
 
   one-to-one : OneToOne z
   one-to-one = record {
-    shows = λ β s. (shown-is-grid z β, said-picture z G (shown-is-grid z β) (said s) (extends β s));
+    shows = λ β s. (shown-is-grid z β, said-picture z G (shown-is-grid z β) (said s) (extends β s), extends β s);
     once = λ m n M N s t e.
         same-model z m n M N
         (unique (shown z (value n)) (value m) (value n) s t (subst (λ g. Extends z g (value m)) e (extends (value m) s)) (extends (value n) t));

@@ -41,11 +41,11 @@ pub record Covers (L : Line) (c t b i : ℕ) : Type 0 where
   pub color-is : at (L .runs) b .color ≡ c
   pub covered : covers (placedAt L b i) t ≡ true
 
--- 7: of a cell variable v, in a line
+-- 7: where the cell variable v is true, so is a position of its colour that covers the cell
 abbrev pub IsCovered : Assignment → Line → ℕ → ℕ → ℕ → Type 0
 IsCovered β L c t v = β v ≡ true → (b : ℕ) × (i : ℕ) × Covers L c t b i × (β (variable L b i) ≡ true)
 
--- 8: likewise
+-- 8: where a position of its colour that covers the cell is true, so is v
 abbrev pub IsColored : Assignment → Line → ℕ → ℕ → ℕ → Type 0
 IsColored β L c t v = (b i : ℕ) → Covers L c t b i → β (variable L b i) ≡ true → β v ≡ true
 
@@ -64,7 +64,7 @@ module _ (z : Puzzle) where
   abbrev pub EachRow : (Line → Type 0) → Type 0
   EachRow P = (y : ℕ) → y < height z → P (lineAt z (width z + y))
 
-  -- per cell, colour: in its column and in its row
+  -- per cell, colour: of the column, and of the row
   abbrev pub EachCell : (Line → ℕ → ℕ → ℕ → Type 0) → Type 0
   EachCell P =
       (x y r : ℕ) → x < width z → y < height z → r < hues z
@@ -78,7 +78,7 @@ module _ (z : Puzzle) where
   abbrev pub Units : Assignment → Type 0
   Units β = (x y r : ℕ) → x < width z → y < height z → r < hues z → MaskSays (maskAt z x y) (hue z r) (β (cellVariable z x y r))
 
-  -- all that they say
+  -- what all ten say
   pub record Said (β : Assignment) : Type 0 where
     pub some-columns : EachColumn (SomePosition β)
     pub some-rows : EachRow (SomePosition β)
@@ -91,7 +91,7 @@ module _ (z : Puzzle) where
     pub one-color : OneColor β
     pub units : Units β
 
-  -- the ten families, each by itself
+  -- each family by itself: its clauses are true exactly where that holds
   pub record Meanings (β : Assignment) : Type 0 where
     pub one : Satisfies β (ofColumns z Positions) ↔ EachColumn (SomePosition β)
     pub two : Satisfies β (ofRows z Positions) ↔ EachRow (SomePosition β)
