@@ -8,7 +8,6 @@ use native.Mathlib.Decide.{decLt}
 use lib.Dec.{eqb}
 use lib.ListN.{length, getD}
 use lib.Seq.{ext-getD}
-use borrow.Author.Tests.{eq-eqb, eqb-true}
 use Rattle.lines.specs.Clue.{gap}
 use Rattle.lines.specs.Line.{runs}
 use Rattle.lines.specs.Arrangement.{Arranged, render}
@@ -24,24 +23,8 @@ use Rattle.numbering.specs.Variables.{lineAt, many, variable, hues, hue}
 use Rattle.pictures.specs.Truth.{Assignment}
 use Rattle.pictures.specs.Meaning.{SomePosition, OnePosition, NoConflict, IsCovered, IsColored}
 use Rattle.pictures.specs.Pictures.{IsColor}
-use Rattle.pictures.proofs.ColorsOfK.{hue-known, known-hue}
+use Rattle.pictures.proofs.ColorsOfK.{hue-known, same-color}
 use Rattle.pictures.proofs.LineArranged.{stands-arranged, arranged-some, arranged-one, arranged-apart, cell-shown, shown-covered, shown-colored}
-
--- colours of K are the same where they are the same to each colour's test
-pub same-color : (z : Puzzle) (c d : ℕ) → IsColor z c → IsColor z d → ((r : ℕ) → r < hues z → eqb c (hue z r) ≡ eqb d (hue z r)) → c ≡ d
-same-color z c d C D e = elim (decLt 0 c) [
-  | yes h ↦ sym (to c d C h e)
-  | no h ↦ elim (decLt 0 d) [
-    | yes k ↦ to d c D k (λ r l. sym (e r l))
-    | no k ↦ omega arith
-  ]
-]
-  where
-    to : (c d : ℕ) → IsColor z c → 0 < c → ((r : ℕ) → r < hues z → eqb c (hue z r) ≡ eqb d (hue z r)) → d ≡ c
-    to c d (inl n) h e = absurd (omega arith)
-    to c d (inr k) h e =
-        let (r, l, q) = known-hue z c h k in
-        eqb-true d (hue z r) (sym (e r l) ∙ eq-eqb c (hue z r) (sym q)) ∙ q
 
 -- what families 1 to 8 say of line l; v t r is the variable of cell t's r-th colour
 pub record LineSaid (z : Puzzle) (l : ℕ) (β : Assignment) (v : ℕ → ℕ → ℕ) : Type 0 where
