@@ -1,7 +1,7 @@
 -- A blocking clause rules out one picture and no other: each row colours equally many cells, so no picture's coloured cells are a part of another's.
 use mathlib.Core.Path.{_≡_, refl, sym, ap, _∙_}
 use mathlib.Core.Logic.{_↔_, inl, inr}
-use mathlib.Core.Bool.{Bool, true, false, true≢false}
+use mathlib.Core.Bool.{true, false, true≢false, not-eq-not}
 use Prim.Native.Nat.{ℕ, _+_, _*_, _<_}
 use native.Mathlib.Omega.{arith}
 use lib.Dec.{eqb}
@@ -14,7 +14,7 @@ use Rattle.numbering.specs.Variables.{hues, hue, cellVariable}
 use Rattle.numbering.proofs.Bounds.{first-some}
 use Rattle.grids.specs.Grid.{row}
 use Rattle.grids.proofs.Cells.{cell-within, row-length, row-cell}
-use Rattle.pictures.specs.Truth.{Assignment, clauseTrue}
+use Rattle.pictures.specs.Truth.{Assignment}
 use Rattle.pictures.specs.Meaning.{Said}
 use Rattle.pictures.specs.Pictures.{Extends, firstCell, shown, blocking}
 use Rattle.pictures.proofs.ColorsOfK.{known-hue}
@@ -71,15 +71,10 @@ module _ (z : Puzzle) (G : Good z) {β γ : Assignment} (S : Said z β) (T : Sai
           row-cell (width z) (height z) (shown z β) t y h ∙ same-color t y h k (omega arith) ∙ sym a)
 
   pub differs-blocking : (shown z γ ≡ shown z β → ⊥) → Holds β (blocking z γ)
-  differs-blocking d = go (clauseTrue β (blocking z γ)) refl
-    where
-      -- a variable that is true in γ only makes the clause true
-      kept : (x y r : ℕ) → x < width z → y < height z → r < hues z → clauseTrue β (blocking z γ) ≡ false → γ (cellVariable z x y r) ≡ true → (b : Bool) → β (cellVariable z x y r) ≡ b → b ≡ true
-      kept x y r h k l e t true f = refl
-      kept x y r h k l e t false f =
-          let (i, j, q) = cell-variable z x y r h k l in
-          absurd (true≢false (sym (blocking-means z β γ .1 (i, j, (rw q t, rw q f))) ∙ e))
-
-      go : (b : Bool) → clauseTrue β (blocking z γ) ≡ b → b ≡ true
-      go true e = refl
-      go false e = absurd (d (same-shown (λ x y r h k l t. kept x y r h k l e t (β (cellVariable z x y r)) refl)))
+  differs-blocking d =
+      -- where it is false, no variable is true in γ only
+      not-eq-not {b = true} .0 (λ e.
+      d (same-shown (λ x y r h k l t.
+      not-eq-not {b = true} .0 (λ f.
+      let (i, j, q) = cell-variable z x y r h k l in
+      true≢false (sym (blocking-means z β γ .1 (i, j, (rw q t, rw q f))) ∙ e)))))

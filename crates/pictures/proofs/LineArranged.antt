@@ -1,6 +1,6 @@
 -- Families 1 to 8 of one line, over any gap: its true positions are those of one arrangement, and its cells those of its rendering.
 use mathlib.Core.Path.{_≡_, refl, sym, _∙_}
-use mathlib.Core.Bool.{Bool, true, false, true≢false}
+use mathlib.Core.Bool.{true, false, true≢false, not-eq-not}
 use mathlib.Core.List.{List}
 use Prim.Native.Nat.{ℕ, _≤_, _<_}
 use native.Mathlib.Omega.{arith}
@@ -58,11 +58,10 @@ module _ {g : ℕ → ℕ → ℕ} (G : Gap g) {bs : List Block} (p : Proper bs)
           go (no k) = absurd (k h)
 
       clear : (a b : ℕ) → a < b → b < many L → clash g (placedAt L a (o a)) (placedAt L b (o b)) ≡ false
-      clear a b l h = go (clash g (placedAt L a (o a)) (placedAt L b (o b))) refl
-        where
-          go : (t : Bool) → clash g (placedAt L a (o a)) (placedAt L b (o b)) ≡ t → t ≡ false
-          go true e = absurd (apart a b (o a) (o b) l h (chosen a (omega arith) .0) (chosen b h .0) e (chosen a (omega arith) .1) (chosen b h .1))
-          go false e = refl
+      clear a b l h =
+          let (k, e) = chosen a (omega arith) in
+          let (i, f) = chosen b h in
+          not-eq-not {b = false} .0 (λ c. apart a b (o a) (o b) l h k i c e f)
 
       -- a true position is the chosen one
       same : (b i : ℕ) → b < many L → i < L .positions → β (variable L b i) ≡ true → i ≡ o b
