@@ -16,6 +16,7 @@ use Rattle.lines.proofs.Rendering.{cell-covered, covered-cell}
 use Rattle.numbering.specs.Variables.{Line, many, placedAt, variable}
 use Rattle.pictures.specs.Truth.{Assignment}
 use Rattle.pictures.specs.Meaning.{NotBoth, SomePosition, OnePosition, IsCovered, IsColored}
+use Rattle.pictures.proofs.Choices.{choice}
 
 module _ {g : ℕ → ℕ → ℕ} (G : Gap g) {bs : List Block} (p : Proper bs) {n : ℕ} (fits : minSpace g bs ≤ n) (first : ℕ) (β : Assignment) where
   abbrev L : Line
@@ -23,6 +24,10 @@ module _ {g : ℕ → ℕ → ℕ} (G : Gap g) {bs : List Block} (p : Proper bs)
 
   abbrev Apart : Type 0
   Apart = (a b i j : ℕ) → a < b → b < many L → i < L .positions → j < L .positions → clash g (placedAt L a i) (placedAt L b j) ≡ true → NotBoth β (variable L a i) (variable L b j)
+
+  -- block b stands at its position i
+  abbrev StandsAt : ℕ → ℕ → Type 0
+  StandsAt b i = (i < L .positions) × (β (variable L b i) ≡ true)
 
   -- the true positions are o
   abbrev Stand : (ℕ → ℕ) → Type 0
@@ -43,19 +48,14 @@ module _ {g : ℕ → ℕ → ℕ} (G : Gap g) {bs : List Block} (p : Proper bs)
     stand,
   )
     where
-      choose : (b : ℕ) → Dec (b < many L) → ℕ
-      choose b (yes h) = some b h .0
-      choose b (no h) = 0
+      picked : (o : ℕ → ℕ) × ((b : ℕ) → b < many L → StandsAt b (o b))
+      picked = choice StandsAt (many L) 0 (λ b h. let (i, k, e) = some b h in (i, (k, e)))
 
       o : ℕ → ℕ
-      o b = choose b (decLt b (many L))
+      o = picked .0
 
-      chosen : (b : ℕ) → b < many L → (o b < L .positions) × (β (variable L b (o b)) ≡ true)
-      chosen b h = go (decLt b (many L))
-        where
-          go : (d : Dec (b < many L)) → (choose b d < L .positions) × (β (variable L b (choose b d)) ≡ true)
-          go (yes k) = (some b k .1, some b k .2)
-          go (no k) = absurd (k h)
+      chosen : (b : ℕ) → b < many L → StandsAt b (o b)
+      chosen = picked .1
 
       clear : (a b : ℕ) → a < b → b < many L → clash g (placedAt L a (o a)) (placedAt L b (o b)) ≡ false
       clear a b l h =
