@@ -1,5 +1,5 @@
 -- A blocking clause rules out one picture and no other: each row colours equally many cells, so no picture's coloured cells are a part of another's.
-use mathlib.Core.Path.{_≡_, refl, sym, ap, _∙_}
+use mathlib.Core.Path.{_≡_, sym, ap, _∙_}
 use mathlib.Core.Logic.{_↔_, inl, inr}
 use mathlib.Core.Bool.{true, false, true≢false, not-eq-not}
 use Prim.Native.Nat.{ℕ, _+_, _*_, _<_}
@@ -45,11 +45,8 @@ module _ (z : Puzzle) (G : Good z) {β γ : Assignment} (S : Said z β) (T : Sai
   same-shown : ((x y r : ℕ) → x < width z → y < height z → r < hues z → γ (cellVariable z x y r) ≡ true → β (cellVariable z x y r) ≡ true) → shown z γ ≡ shown z β
   same-shown up =
       same-grid z (shown z γ) (shown z β) (shown-is-grid z γ .cells) (shown-is-grid z β .cells) (λ x y h k.
-      sym (row-cell w (height z) (shown z γ) x y h) ∙ ap (λ l. getD l x 0) (same-row y k) ∙ row-cell w (height z) (shown z β) x y h)
+      sym (row-cell (width z) (height z) (shown z γ) x y h) ∙ ap (λ l. getD l x 0) (same-row y k) ∙ row-cell (width z) (height z) (shown z β) x y h)
     where
-      w : ℕ
-      w = width z
-
       same-color : (x y : ℕ) → x < width z → y < height z → 0 < getD (shown z γ) (y * width z + x) 0 → getD (shown z β) (y * width z + x) 0 ≡ getD (shown z γ) (y * width z + x) 0
       same-color x y h k some =
           elim (shown-is-grid z γ .known (y * width z + x) (rw (shown-is-grid z γ .cells) (cell-within (width z) (height z) x y h k))) [

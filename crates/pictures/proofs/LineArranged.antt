@@ -18,6 +18,10 @@ use Rattle.pictures.specs.Truth.{Assignment}
 use Rattle.pictures.specs.Meaning.{NotBoth, SomePosition, OnePosition, IsCovered, IsColored}
 use Rattle.pictures.proofs.Choices.{choice}
 
+-- each block b stands at its position o b alone
+abbrev pub Stand : Assignment → Line → (ℕ → ℕ) → Type 0
+Stand β L o = (b i : ℕ) → b < many L → i < L .positions → β (variable L b i) ≡ eqb i (o b)
+
 module _ {g : ℕ → ℕ → ℕ} (G : Gap g) {bs : List Block} (p : Proper bs) {n : ℕ} (fits : minSpace g bs ≤ n) (first : ℕ) (β : Assignment) where
   abbrev L : Line
   L = record { first = first; positions = positions g n bs; runs = packed g bs }
@@ -29,10 +33,6 @@ module _ {g : ℕ → ℕ → ℕ} (G : Gap g) {bs : List Block} (p : Proper bs)
   abbrev StandsAt : ℕ → ℕ → Type 0
   StandsAt b i = (i < L .positions) × (β (variable L b i) ≡ true)
 
-  -- the true positions are o
-  abbrev Stand : (ℕ → ℕ) → Type 0
-  Stand o = (b i : ℕ) → b < many L → i < L .positions → β (variable L b i) ≡ eqb i (o b)
-
   in-line : (b : ℕ) → b < length bs → b < many L
   in-line b h = omega (arith, packed-length g bs)
 
@@ -41,7 +41,7 @@ module _ {g : ℕ → ℕ → ℕ} (G : Gap g) {bs : List Block} (p : Proper bs)
 
   -- ---- families 1 to 6
 
-  pub stands-arranged : SomePosition β L → OnePosition β L → Apart → (o : ℕ → ℕ) × Arranged g n bs o × Stand o
+  pub stands-arranged : SomePosition β L → OnePosition β L → Apart → (o : ℕ → ℕ) × Arranged g n bs o × Stand β L o
   stands-arranged some one apart = (
     o,
     record { fits = fits; below = λ b h. chosen b (in-line b h) .0; apart = λ a b l h. clear a b l (in-line b h) },
@@ -73,10 +73,10 @@ module _ {g : ℕ → ℕ → ℕ} (G : Gap g) {bs : List Block} (p : Proper bs)
         ]
       ]
 
-      stand : Stand o
+      stand : Stand β L o
       stand b i h k = same-tests _ _ (λ e. eq-eqb i (o b) (same b i h k e)) (λ e. rw (eqb-true i (o b) e) (chosen b h .1))
 
-  module _ {o : ℕ → ℕ} (A : Arranged g n bs o) (S : Stand o) where
+  module _ {o : ℕ → ℕ} (A : Arranged g n bs o) (S : Stand β L o) where
     stands : (b : ℕ) → b < many L → β (variable L b (o b)) ≡ true
     stands b h = S b (o b) h (A .below b (in-clue b h)) ∙ eq-eqb (o b) (o b) refl
 

@@ -24,7 +24,7 @@ use Rattle.pictures.specs.Truth.{Assignment}
 use Rattle.pictures.specs.Meaning.{SomePosition, OnePosition, NoConflict, IsCovered, IsColored}
 use Rattle.pictures.specs.Pictures.{IsColor}
 use Rattle.pictures.proofs.ColorsOfK.{hue-known, same-color}
-use Rattle.pictures.proofs.LineArranged.{stands-arranged, arranged-some, arranged-one, arranged-apart, cell-shown, shown-covered, shown-colored}
+use Rattle.pictures.proofs.LineArranged.{Stand, stands-arranged, arranged-some, arranged-one, arranged-apart, cell-shown, shown-covered, shown-colored}
 
 -- what families 1 to 8 say of line l; v t r is the variable of cell t's r-th colour
 pub record LineSaid (z : Puzzle) (l : ℕ) (β : Assignment) (v : ℕ → ℕ → ℕ) : Type 0 where
@@ -60,8 +60,7 @@ module _ (z : Puzzle) (G : Good z) (l : ℕ) (h : l < lines z) where
     -- the positions are those of an arrangement that shows the cells
     line-arranged : LineSaid z l β v → LineCells z l β v cells
         → (o : ℕ → ℕ) × Arranged gap (lengthAt z l) (clueAt z l) o
-        × ((b i : ℕ) → b < many (lineAt z l) → i < lineAt z l .positions → β (variable (lineAt z l) b i) ≡ eqb i (o b))
-        × (render gap (lengthAt z l) (clueAt z l) o ≡ cells)
+        × Stand β (lineAt z l) o × (render gap (lengthAt z l) (clueAt z l) o ≡ cells)
     unfolding lineAt
     line-arranged S C =
         let (o, A, T) = stands-arranged base-gap (G .proper l h) (G .fits l h) (firstAt z l) β (S .some) (S .one) (S .apart) in
@@ -80,9 +79,7 @@ module _ (z : Puzzle) (G : Good z) (l : ℕ) (h : l < lines z) where
         ap runs (sym e) ∙ read-back base-gap (G .proper l h) A
 
     -- and the other way round, with the offsets that the cells show
-    pub reads-said : runs cells ≡ clueAt z l → LineCells z l β v cells
-        → ((b i : ℕ) → b < many (lineAt z l) → i < lineAt z l .positions → β (variable (lineAt z l) b i) ≡ eqb i (offsets cells b))
-        → LineSaid z l β v
+    pub reads-said : runs cells ≡ clueAt z l → LineCells z l β v cells → Stand β (lineAt z l) (offsets cells) → LineSaid z l β v
     unfolding lineAt offsets
     reads-said e C T =
         let (o, A₀, s₀) = arranged base-gap cells (base-spaced cells) in

@@ -12,7 +12,7 @@ use Rattle.lines.proofs.Packing.{packed-length}
 use Rattle.puzzles.specs.Puzzle.{Puzzle, width, height, lines, clueAt}
 use Rattle.puzzles.specs.Good.{Good}
 use Rattle.puzzles.proofs.Lines.{clue-column, length-column, clue-row, length-row}
-use Rattle.numbering.specs.Variables.{lineAt, many, variable, hue, cellVariable}
+use Rattle.numbering.specs.Variables.{lineAt, hue, cellVariable}
 use Rattle.numbering.specs.Names.{Name, position, cell, IsName, number}
 use Rattle.grids.specs.Grid.{row, column}
 use Rattle.grids.proofs.Cells.{cell-within, row-length, row-cell, column-length, column-cell}
@@ -20,6 +20,7 @@ use Rattle.pictures.specs.Truth.{Assignment}
 use Rattle.pictures.specs.Meaning.{Said}
 use Rattle.pictures.specs.Pictures.{IsColor, Grid, Picture, Extends, obeys}
 use Rattle.pictures.proofs.ColorsOfK.{hue-once}
+use Rattle.pictures.proofs.LineArranged.{Stand}
 use Rattle.pictures.proofs.LineReads.{LineSaid, LineCells, offsets, said-reads, reads-said}
 use Rattle.pictures.proofs.Masks.{units-obeyed, obeyed-units}
 use Rattle.pictures.proofs.GridModel.{lineOf, told}
@@ -92,7 +93,7 @@ module _ (z : Puzzle) where
       unfolding told
       told-extends x y r h k l = T (cell x y r) (h, k, l)
 
-      stands : (l : ℕ) → l < lines z → (b i : ℕ) → b < many (lineAt z l) → i < lineAt z l .positions → β (variable (lineAt z l) b i) ≡ eqb i (offsets (lineOf z grid l) b)
+      stands : (l : ℕ) → l < lines z → Stand β (lineAt z l) (offsets (lineOf z grid l))
       unfolding lineAt told
       stands l h b i k j = T (position l b i) (h, omega (arith, packed-length gap (clueAt z l)), j)
 
@@ -110,12 +111,12 @@ module _ (z : Puzzle) where
       told-column : (x : ℕ) → x < width z → LineSaid z x β (columnCell x)
       told-column x h =
           reads-said z G x (omega arith) (P .columns-read x h ∙ sym (clue-column z x h)) (column-cells Q told-extends x h)
-          (λ b i k j. rw (← line-column x h) (stands x (omega arith) b i k j))
+          (rw (← line-column x h) (stands x (omega arith)))
 
       told-row : (y : ℕ) → y < height z → LineSaid z (width z + y) β (rowCell y)
       told-row y h =
           reads-said z G (width z + y) (omega arith) (P .rows-read y h ∙ sym (clue-row z y)) (row-cells Q told-extends y h)
-          (λ b i k j. rw (← line-row y) (stands (width z + y) (omega arith) b i k j))
+          (rw (← line-row y) (stands (width z + y) (omega arith)))
 
       pub picture-said : Said z β
       picture-said = record {

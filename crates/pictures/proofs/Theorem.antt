@@ -1,7 +1,7 @@
 -- Condition 3, of every puzzle whose words are accepted.
 use mathlib.Core.Path.{_≡_, sym, subst, _∙_}
 use mathlib.Core.Bool.{false}
-use mathlib.Core.Logic.{_↔_}
+use mathlib.Core.Logic.{_↔_, Iff·rfl}
 use mathlib.Core.List.{List, _++_, map}
 use Prim.Native.Nat.{ℕ, suc, _+_, _-_, _≤_, _<_}
 use native.Mathlib.Omega.{arith}
@@ -84,7 +84,7 @@ module _ (z : Puzzle) (G : Good z) where
   )
     where
       both : (β : Assignment) → Satisfies β (clauses z ++ map (blocking z) L) ↔ (Solves z β × ((i : ℕ) → i < length L → Holds β (blocking z (member L i))))
-      both β = append-means β (clauses z) (map (blocking z) L) (λ h. h, λ h. h) (map-means β (blocking z) L (λ v. false) (λ i h. (λ h. h, λ h. h)))
+      both β = append-means β (clauses z) (map (blocking z) L) Iff·rfl (map-means β (blocking z) L (λ v. false) (λ i h. Iff·rfl))
 
   -- ---- 4
 
