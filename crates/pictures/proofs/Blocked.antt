@@ -30,12 +30,14 @@ blocking-means z β γ =
     some-each-means β (width z * height z * hues z) _ (λ k h. some-when-means β (γ (firstCell z + k)) _ (no-means β (firstCell z + k) (omega (arith, first-some z (lines z)))))
 
 module _ (z : Puzzle) (G : Good z) {β γ : Assignment} (S : Said z β) (T : Said z γ) where
+  -- each extends the grid that it shows
   E : Extends z (shown z β) β
   E = shown-extends z β (S .one-color)
 
   F : Extends z (shown z γ) γ
   F = shown-extends z γ (T .one-color)
 
+  -- where the clause of γ is true, they show two grids
   pub blocking-differs : Holds β (blocking z γ) → shown z γ ≡ shown z β → ⊥
   blocking-differs b e =
       let (k, h, (t, f)) = blocking-means z β γ .0 b in
@@ -67,6 +69,7 @@ module _ (z : Puzzle) (G : Good z) {β γ : Assignment} (S : Said z β) (T : Sai
           let a = row-cell (width z) (height z) (shown z γ) t y h in
           row-cell (width z) (height z) (shown z β) t y h ∙ same-color t y h k (omega arith) ∙ sym a)
 
+  -- and where they show two, it is true
   pub differs-blocking : (shown z γ ≡ shown z β → ⊥) → Holds β (blocking z γ)
   differs-blocking d =
       -- where it is false, no variable is true in γ only

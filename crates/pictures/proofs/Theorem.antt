@@ -1,4 +1,4 @@
--- Condition 3, of every puzzle whose words are accepted.
+-- Condition 3.
 use mathlib.Core.Path.{_≡_, sym, subst, _∙_}
 use mathlib.Core.Bool.{false}
 use mathlib.Core.Logic.{_↔_, Iff·rfl}
@@ -49,8 +49,9 @@ module _ (z : Puzzle) (G : Good z) where
   said : {β : Assignment} → Solves z β → Said z β
   said {β} s = solved-said z β .0 s
 
-  -- ---- 1
+  -- ---- Picture
 
+  -- a picture's model
   module _ {grid : List ℕ} (Q : Grid z grid) (P : Picture z grid) where
     model-solves : Solves z (value (model z grid))
     model-solves = solved-said z (value (model z grid)) .1 (picture-said z G Q P (value (model z grid)) (model-told z grid))
@@ -61,13 +62,14 @@ module _ (z : Puzzle) (G : Good z) where
   picture-is : PictureIs z
   picture-is grid Q = (λ s. said-picture z G Q (said (s .1)) (s .2), λ P. (value (model z grid), model-solves Q P, model-extends Q P))
 
-  -- ---- 2
+  -- ---- Unique
 
   unique : Unique z
   unique grid β γ s t e f = same-everywhere z G (said s) (said t) (λ x y r h k l. e x y r h k l ∙ sym (f x y r h k l))
 
-  -- ---- 3
+  -- ---- Blocking
 
+  -- it shows the grid that it extends
   shows : (β : Assignment) → Solves z β → {grid : List ℕ} → Grid z grid → Extends z grid β → shown z β ≡ grid
   shows β s {grid} Q e = extends-shown z β (said s .one-color) grid Q e
 
@@ -86,8 +88,9 @@ module _ (z : Puzzle) (G : Good z) where
       both : (β : Assignment) → Satisfies β (clauses z ++ map (blocking z) L) ↔ (Solves z β × ((i : ℕ) → i < length L → Holds β (blocking z (member L i))))
       both β = append-means β (clauses z) (map (blocking z) L) Iff·rfl (map-means β (blocking z) L (λ v. false) (λ i h. Iff·rfl))
 
-  -- ---- 4
+  -- ---- Count
 
+  -- and extends the grid that it shows
   extends : (β : Assignment) → Solves z β → Extends z (shown z β) β
   extends β s = shown-extends z β (said s .one-color)
 
@@ -100,6 +103,7 @@ module _ (z : Puzzle) (G : Good z) where
     all = λ grid Q P. (model z grid, is-model z grid, model-solves Q P, shows (value (model z grid)) (model-solves Q P) Q (model-extends Q P));
   }
 
+-- of every puzzle whose words are accepted
 pub condition-3 : Condition3
 condition-3 ws n e =
     let G = accepted-is ws e .good in
