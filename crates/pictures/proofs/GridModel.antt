@@ -13,7 +13,7 @@ use Rattle.numbering.specs.Variables.{hue, variables}
 use Rattle.numbering.specs.Names.{Name, position, cell, IsName, number}
 use Rattle.numbering.proofs.OneToOne.{number-within, number-once, number-named}
 use Rattle.grids.specs.Grid.{row, column}
-use Rattle.pictures.specs.Pictures.{Model, value}
+use Rattle.pictures.specs.Pictures.{Extends, Model, value}
 use Rattle.pictures.proofs.Choices.{choice}
 use Rattle.pictures.proofs.LineReads.{offsets}
 
@@ -64,3 +64,8 @@ module _ (z : Puzzle) (grid : List ℕ) where
       is-byte : (b : Bool) → eqb (cond b 1 0) 1 ≡ b
       is-byte true = refl
       is-byte false = refl
+
+  -- so it extends the grid
+  pub model-extends : Extends z grid (value model)
+  unfolding told
+  model-extends x y r h k l = model-told (cell x y r) (h, k, l)

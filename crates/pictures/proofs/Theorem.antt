@@ -21,9 +21,9 @@ use Rattle.pictures.specs.Meaning.{Said}
 use Rattle.pictures.specs.Pictures.{Grid, Picture, Solves, Extends, Model, value, shown, blocking, member, PictureIs, Unique, Blocking, OneToOne, Condition3}
 use Rattle.pictures.proofs.TrueClauses.{Holds, append-means, map-means}
 use Rattle.pictures.proofs.EachFamily.{solved-said}
-use Rattle.pictures.proofs.GridModel.{model, is-model, model-told}
+use Rattle.pictures.proofs.GridModel.{model, is-model, model-extends}
 use Rattle.pictures.proofs.ShownGrid.{shown-is-grid, shown-extends, extends-shown}
-use Rattle.pictures.proofs.Pictured.{said-picture, told-extends, picture-said}
+use Rattle.pictures.proofs.Pictured.{said-picture, picture-said}
 use Rattle.pictures.proofs.Determined.{same-everywhere}
 use Rattle.pictures.proofs.Blocked.{blocking-differs, differs-blocking}
 
@@ -51,16 +51,12 @@ module _ (z : Puzzle) (G : Good z) where
 
   -- ---- Picture
 
-  -- a picture's model
-  module _ {grid : List ℕ} (Q : Grid z grid) (P : Picture z grid) where
-    model-solves : Solves z (value (model z grid))
-    model-solves = solved-said z (value (model z grid)) .1 (picture-said z G Q P (value (model z grid)) (model-told z grid))
-
-    model-extends : Extends z grid (value (model z grid))
-    model-extends = told-extends z G Q P (value (model z grid)) (model-told z grid)
+  -- the model of a picture
+  model-solves : {grid : List ℕ} → Grid z grid → Picture z grid → Solves z (value (model z grid))
+  model-solves {grid} Q P = solved-said z (value (model z grid)) .1 (picture-said z G Q P)
 
   picture-is : PictureIs z
-  picture-is grid Q = (λ s. said-picture z G Q (said (s .1)) (s .2), λ P. (value (model z grid), model-solves Q P, model-extends Q P))
+  picture-is grid Q = (λ s. said-picture z G Q (said (s .1)) (s .2), λ P. (value (model z grid), model-solves Q P, model-extends z grid))
 
   -- ---- Unique
 
@@ -80,7 +76,7 @@ module _ (z : Puzzle) (G : Good z) where
         (picture-is grid Q .0 (s .0, b, s .2), λ i h q. blocking-differs z G (said b) (said (solve i h)) (cs i h) (q ∙ sym (shows (s .0) b Q (s .2)))),
     λ P.
         let b = model-solves Q (P .0) in
-        let e = model-extends Q (P .0) in
+        let e = model-extends z grid in
         let β = value (model z grid) in
         (β, both β .1 (b, λ i h. differs-blocking z G (said b) (said (solve i h)) (λ q. P .1 i h (q ∙ shows β b Q e))), e),
   )
@@ -100,7 +96,7 @@ module _ (z : Puzzle) (G : Good z) where
     once = λ m n M N s t e.
         same-model z m n M N
         (unique (shown z (value n)) (value m) (value n) s t (subst (λ g. Extends z g (value m)) e (extends (value m) s)) (extends (value n) t));
-    all = λ grid Q P. (model z grid, is-model z grid, model-solves Q P, shows (value (model z grid)) (model-solves Q P) Q (model-extends Q P));
+    all = λ grid Q P. (model z grid, is-model z grid, model-solves Q P, shows (value (model z grid)) (model-solves Q P) Q (model-extends z grid));
   }
 
 -- of every puzzle whose words are accepted
