@@ -6,23 +6,28 @@ use Prim.Native.Nat.{ℕ, suc, _+_, _-_, _*_, _≤_, _<_}
 use native.Mathlib.Omega.{arith}
 use lib.Dec.{eqb, ltb}
 use lib.ListN.{length, getD}
+use borrow.Author.Tests.{lt-ltb, le-ltb}
 use Rattle.lists.specs.Each.{tab}
 use Rattle.lists.proofs.Eaches.{length-tab, getD-tab}
-use Rattle.puzzles.specs.Puzzle.{Puzzle, width, height}
-use Rattle.numbering.specs.Variables.{hue, variables}
+use Rattle.lines.specs.Clue.{gap}
+use Rattle.lines.proofs.Packing.{packed-length}
+use Rattle.puzzles.specs.Puzzle.{Puzzle, width, height, lines, clueAt}
+use Rattle.numbering.specs.Variables.{lineAt, hue, variables}
 use Rattle.numbering.specs.Names.{Name, position, cell, IsName, number}
 use Rattle.numbering.proofs.OneToOne.{number-within, number-once, number-named}
 use Rattle.grids.specs.Grid.{row, column}
 use Rattle.pictures.specs.Pictures.{Extends, Model, value}
 use Rattle.pictures.proofs.Choices.{choice}
+use Rattle.pictures.proofs.LineArranged.{Stand}
 use Rattle.pictures.proofs.LineReads.{offsets}
 
 module _ (z : Puzzle) (grid : List ℕ) where
-  unfoldable pub lineOf : ℕ → List ℕ
+  -- line l, columns from 0, rows from width
+  unfoldable lineOf : ℕ → List ℕ
   lineOf l = cond (ltb l (width z)) (column (width z) (height z) grid l) (row (width z) grid (l - width z))
 
   -- what the grid says of a name
-  unfoldable pub told : Name → Bool
+  unfoldable told : Name → Bool
   told (position l b i) = eqb i (offsets (lineOf l) b)
   told (cell x y r) = eqb (getD grid (y * width z + x) 0) (hue z r)
 
@@ -54,7 +59,7 @@ module _ (z : Puzzle) (grid : List ℕ) where
       most false = omega arith
 
   -- its assignment says of each name's variable what the grid says
-  pub model-told : (n : Name) → IsName z n → value model (number z n) ≡ told n
+  model-told : (n : Name) → IsName z n → value model (number z n) ≡ told n
   model-told n h =
       let (low, most) = number-within z n h in
       let i = number z n - 1 in
@@ -69,3 +74,19 @@ module _ (z : Puzzle) (grid : List ℕ) where
   pub model-extends : Extends z grid (value model)
   unfolding told
   model-extends x y r h k l = model-told (cell x y r) (h, k, l)
+
+  -- and its blocks stand where the lines show them
+  stands : (l : ℕ) → l < lines z → Stand (value model) (lineAt z l) (offsets (lineOf l))
+  unfolding lineAt told
+  stands l h b i k j = model-told (position l b i) (h, omega (arith, packed-length gap (clueAt z l)), j)
+
+  pub model-column : (x : ℕ) → x < width z → Stand (value model) (lineAt z x) (offsets (column (width z) (height z) grid x))
+  unfolding lineOf
+  model-column x h = let e = lt-ltb x (width z) h in rw e at (stands x (omega arith))
+
+  pub model-row : (y : ℕ) → y < height z → Stand (value model) (lineAt z (width z + y)) (offsets (row (width z) grid y))
+  unfolding lineOf
+  model-row y h =
+      let e = le-ltb (width z + y) (width z) (omega arith) in
+      let q : width z + y - width z ≡ y = omega arith in
+      rw (e, q) at (stands (width z + y) (omega arith))

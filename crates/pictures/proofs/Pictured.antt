@@ -2,28 +2,24 @@
 use mathlib.Core.Path.{_≡_, sym, ap, _∙_}
 use mathlib.Core.Bool.{true}
 use mathlib.Core.List.{List}
-use Prim.Native.Nat.{ℕ, _+_, _-_, _*_, _≤_, _<_}
+use Prim.Native.Nat.{ℕ, _+_, _*_, _<_}
 use native.Mathlib.Omega.{arith}
 use lib.Dec.{eqb}
 use lib.ListN.{length, getD}
-use borrow.Author.Tests.{lt-ltb, le-ltb, eqb-true}
-use Rattle.lines.specs.Clue.{gap}
-use Rattle.lines.proofs.Packing.{packed-length}
-use Rattle.puzzles.specs.Puzzle.{Puzzle, width, height, lines, clueAt}
+use borrow.Author.Tests.{eqb-true}
+use Rattle.puzzles.specs.Puzzle.{Puzzle, width, height}
 use Rattle.puzzles.specs.Good.{Good}
 use Rattle.puzzles.proofs.Lines.{clue-column, length-column, clue-row, length-row}
-use Rattle.numbering.specs.Variables.{lineAt, hue, cellVariable}
-use Rattle.numbering.specs.Names.{position}
+use Rattle.numbering.specs.Variables.{hue, cellVariable}
 use Rattle.grids.specs.Grid.{row, column}
 use Rattle.grids.proofs.Cells.{cell-within, row-length, row-cell, column-length, column-cell}
 use Rattle.pictures.specs.Truth.{Assignment}
 use Rattle.pictures.specs.Meaning.{Said}
 use Rattle.pictures.specs.Pictures.{IsColor, Grid, Picture, Extends, obeys, value}
 use Rattle.pictures.proofs.ColorsOfK.{hue-once}
-use Rattle.pictures.proofs.LineArranged.{Stand}
-use Rattle.pictures.proofs.LineReads.{LineSaid, LineCells, offsets, said-reads, reads-said}
+use Rattle.pictures.proofs.LineReads.{LineSaid, LineCells, said-reads, reads-said}
 use Rattle.pictures.proofs.Masks.{units-obeyed, obeyed-units}
-use Rattle.pictures.proofs.GridModel.{lineOf, told, model, model-told, model-extends}
+use Rattle.pictures.proofs.GridModel.{model, model-extends, model-column, model-row}
 use Rattle.pictures.proofs.ShownGrid.{each-cell}
 
 module _ (z : Puzzle) where
@@ -95,30 +91,15 @@ module _ (z : Puzzle) where
       abbrev E : Extends z grid β
       E = model-extends z grid
 
-      stands : (l : ℕ) → l < lines z → Stand β (lineAt z l) (offsets (lineOf z grid l))
-      unfolding lineAt told
-      stands l h b i k j = model-told z grid (position l b i) (h, omega (arith, packed-length gap (clueAt z l)), j)
-
-      line-column : (x : ℕ) → x < width z → lineOf z grid x ≡ column (width z) (height z) grid x
-      unfolding lineOf
-      line-column x h = rw (lt-ltb _ _ h)
-
-      line-row : (y : ℕ) → lineOf z grid (width z + y) ≡ row (width z) grid y
-      unfolding lineOf
-      line-row y =
-          let h : width z ≤ width z + y = omega arith in
-          let e : width z + y - width z ≡ y = omega arith in
-          rw (le-ltb _ _ h, e)
-
       told-column : (x : ℕ) → x < width z → LineSaid z x β (columnCell x)
       told-column x h =
           reads-said z G x (omega arith) (P .columns-read x h ∙ sym (clue-column z x h)) (column-cells Q E x h)
-          (rw (← line-column x h) (stands x (omega arith)))
+          (model-column z grid x h)
 
       told-row : (y : ℕ) → y < height z → LineSaid z (width z + y) β (rowCell y)
       told-row y h =
           reads-said z G (width z + y) (omega arith) (P .rows-read y h ∙ sym (clue-row z y)) (row-cells Q E y h)
-          (rw (← line-row y) (stands (width z + y) (omega arith)))
+          (model-row z grid y h)
 
       pub picture-said : Said z β
       picture-said = record {
