@@ -1,7 +1,7 @@
 -- A blocking clause rules out one picture and no other: each row colours equally many cells, so no picture's coloured cells are a part of another's.
-use mathlib.Core.Path.{_≡_, refl, sym, ap, _∙_}
+use mathlib.Core.Path.{_≡_, sym, ap, _∙_}
 use mathlib.Core.Logic.{_↔_, inl, inr}
-use mathlib.Core.Bool.{Bool, true, false, true≢false}
+use mathlib.Core.Bool.{true, false, true≢false, not-eq-not}
 use Prim.Native.Nat.{ℕ, _+_, _*_, _<_}
 use native.Mathlib.Omega.{arith}
 use lib.Dec.{eqb}
@@ -14,7 +14,7 @@ use Rattle.numbering.specs.Variables.{hues, hue, cellVariable}
 use Rattle.numbering.proofs.Bounds.{first-some}
 use Rattle.grids.specs.Grid.{row}
 use Rattle.grids.proofs.Cells.{cell-within, row-length, row-cell}
-use Rattle.pictures.specs.Truth.{Assignment, clauseTrue}
+use Rattle.pictures.specs.Truth.{Assignment}
 use Rattle.pictures.specs.Meaning.{Said}
 use Rattle.pictures.specs.Pictures.{Extends, firstCell, shown, blocking}
 use Rattle.pictures.proofs.ColorsOfK.{known-hue}
@@ -30,12 +30,14 @@ blocking-means z β γ =
     some-each-means β (width z * height z * hues z) _ (λ k h. some-when-means β (γ (firstCell z + k)) _ (no-means β (firstCell z + k) (omega (arith, first-some z (lines z)))))
 
 module _ (z : Puzzle) (G : Good z) {β γ : Assignment} (S : Said z β) (T : Said z γ) where
+  -- each extends the grid that it shows
   E : Extends z (shown z β) β
   E = shown-extends z β (S .one-color)
 
   F : Extends z (shown z γ) γ
   F = shown-extends z γ (T .one-color)
 
+  -- where the clause of γ is true, they show two grids
   pub blocking-differs : Holds β (blocking z γ) → shown z γ ≡ shown z β → ⊥
   blocking-differs b e =
       let (k, h, (t, f)) = blocking-means z β γ .0 b in
@@ -45,11 +47,8 @@ module _ (z : Puzzle) (G : Good z) {β γ : Assignment} (S : Said z β) (T : Sai
   same-shown : ((x y r : ℕ) → x < width z → y < height z → r < hues z → γ (cellVariable z x y r) ≡ true → β (cellVariable z x y r) ≡ true) → shown z γ ≡ shown z β
   same-shown up =
       same-grid z (shown z γ) (shown z β) (shown-is-grid z γ .cells) (shown-is-grid z β .cells) (λ x y h k.
-      sym (row-cell w (height z) (shown z γ) x y h) ∙ ap (λ l. getD l x 0) (same-row y k) ∙ row-cell w (height z) (shown z β) x y h)
+      sym (row-cell (width z) (height z) (shown z γ) x y h) ∙ ap (λ l. getD l x 0) (same-row y k) ∙ row-cell (width z) (height z) (shown z β) x y h)
     where
-      w : ℕ
-      w = width z
-
       same-color : (x y : ℕ) → x < width z → y < height z → 0 < getD (shown z γ) (y * width z + x) 0 → getD (shown z β) (y * width z + x) 0 ≡ getD (shown z γ) (y * width z + x) 0
       same-color x y h k some =
           elim (shown-is-grid z γ .known (y * width z + x) (rw (shown-is-grid z γ .cells) (cell-within (width z) (height z) x y h k))) [
@@ -70,16 +69,12 @@ module _ (z : Puzzle) (G : Good z) {β γ : Assignment} (S : Said z β) (T : Sai
           let a = row-cell (width z) (height z) (shown z γ) t y h in
           row-cell (width z) (height z) (shown z β) t y h ∙ same-color t y h k (omega arith) ∙ sym a)
 
+  -- and where they show two, it is true
   pub differs-blocking : (shown z γ ≡ shown z β → ⊥) → Holds β (blocking z γ)
-  differs-blocking d = go (clauseTrue β (blocking z γ)) refl
-    where
-      -- a variable that is true in γ only makes the clause true
-      kept : (x y r : ℕ) → x < width z → y < height z → r < hues z → clauseTrue β (blocking z γ) ≡ false → γ (cellVariable z x y r) ≡ true → (b : Bool) → β (cellVariable z x y r) ≡ b → b ≡ true
-      kept x y r h k l e t true f = refl
-      kept x y r h k l e t false f =
-          let (i, j, q) = cell-variable z x y r h k l in
-          absurd (true≢false (sym (blocking-means z β γ .1 (i, j, (rw q t, rw q f))) ∙ e))
-
-      go : (b : Bool) → clauseTrue β (blocking z γ) ≡ b → b ≡ true
-      go true e = refl
-      go false e = absurd (d (same-shown (λ x y r h k l t. kept x y r h k l e t (β (cellVariable z x y r)) refl)))
+  differs-blocking d =
+      -- where it is false, no variable is true in γ only
+      not-eq-not {b = true} .0 (λ e.
+      d (same-shown (λ x y r h k l t.
+      not-eq-not {b = true} .0 (λ f.
+      let (i, j, q) = cell-variable z x y r h k l in
+      true≢false (sym (blocking-means z β γ .1 (i, j, (rw q t, rw q f))) ∙ e)))))

@@ -1,13 +1,16 @@
 -- The colours of K are the palette, ascending, each once.
 use mathlib.Core.Path.{_≡_, refl, sym, ap, _∙_}
+use mathlib.Core.Logic.{_⊎_, inl, inr, ⊎-elim}
 use mathlib.Core.Bool.{Bool, true, false, false≢true}
 use mathlib.Core.List.{List, [], _∷_, _++_, append-nil}
 use Prim.Native.Nat.{ℕ, zero, suc, _≤_, _<_}
 use native.Mathlib.Omega.{arith}
 use native.Mathlib.Decide.{ℕ-discrete, decLt}
+use lib.Dec.{eqb}
 use lib.ListN.{length, getD, length-append, List·getD-append}
 use lib.Pow.{pow-mono}
 use lib.Seq.{getD-at}
+use borrow.Author.Tests.{eq-eqb, eqb-true}
 use Rattle.lists.specs.Each.{each, when}
 use Rattle.bits.specs.Bits.{bit}
 use Rattle.bits.proofs.SetBits.{bit-beyond}
@@ -16,6 +19,7 @@ use Rattle.puzzles.specs.Checks.{colors}
 use Rattle.puzzles.proofs.ColorSets.{set-within}
 use Rattle.numbering.specs.Variables.{palette, hues, hue}
 use Rattle.numbering.proofs.Palettes.{colorOf}
+use Rattle.pictures.specs.Pictures.{IsColor}
 
 -- a colour of K from 1 to n
 record Hue (K n c : ℕ) : Type 0 where
@@ -114,4 +118,24 @@ module _ (z : Puzzle) where
   hue-once r s h i e = elim (decLt r s) [
     | yes j ↦ absurd (omega (arith, L .rising r s j i))
     | no j ↦ elim (decLt s r) [ yes k ↦ absurd (omega (arith, L .rising s r k h)) | no k ↦ omega arith ]
+  ]
+
+  -- ---- blank, or a colour of K
+
+  pub color-cases : (c : ℕ) → IsColor z c → (c ≡ 0) ⊎ ((r : ℕ) × (r < hues z) × (hue z r ≡ c))
+  color-cases zero C = inl refl
+  color-cases (suc c) (inl e) = inl e
+  color-cases (suc c) (inr e) = inr (known-hue (suc c) (omega arith) e)
+
+  pub color-most : (c : ℕ) → IsColor z c → c ≤ 31
+  color-most c C = ⊎-elim (λ e. omega arith) (λ (r, h, e). omega (arith, hue-most r h)) (color-cases c C)
+
+  -- two are the same where they are the same to the test of each colour
+  pub same-color : (c d : ℕ) → IsColor z c → IsColor z d → ((r : ℕ) → r < hues z → eqb c (hue z r) ≡ eqb d (hue z r)) → c ≡ d
+  same-color c d C D e = elim (color-cases c C) [
+    | inr (r, h, q) ↦ sym (eqb-true d (hue z r) (sym (e r h) ∙ eq-eqb c (hue z r) (sym q)) ∙ q)
+    | inl n ↦ elim (color-cases d D) [
+      | inr (r, h, q) ↦ eqb-true c (hue z r) (e r h ∙ eq-eqb d (hue z r) (sym q)) ∙ q
+      | inl m ↦ n ∙ sym m
+    ]
   ]

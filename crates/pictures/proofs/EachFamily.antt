@@ -155,7 +155,9 @@ module _ (β : Assignment) where
 
 -- the ten meanings
 pub meanings : (z : Puzzle) (β : Assignment) → Meanings z β
+unfolding families
 meanings z β = record {
+  sections = refl;
   one = columns-mean β z Positions (λ L _. positions-means β L);
   two = rows-mean β z Positions (λ L _. positions-means β L);
   three = columns-mean β z Once (once-means β);

@@ -1,59 +1,55 @@
 -- The model of a grid: each cell variable is true where the cell has its colour, each position where the lines show the block.
-use mathlib.Core.Path.{_≡_, refl, ap, _∙_}
+use mathlib.Core.Path.{_≡_, refl, sym, ap, _∙_}
 use mathlib.Core.Bool.{Bool, true, false, cond}
 use mathlib.Core.List.{List}
 use Prim.Native.Nat.{ℕ, suc, _+_, _-_, _*_, _≤_, _<_}
 use native.Mathlib.Omega.{arith}
-use native.Mathlib.Decide.{decLt}
 use lib.Dec.{eqb, ltb}
 use lib.ListN.{length, getD}
+use borrow.Author.Tests.{lt-ltb, le-ltb}
 use Rattle.lists.specs.Each.{tab}
 use Rattle.lists.proofs.Eaches.{length-tab, getD-tab}
-use Rattle.puzzles.specs.Puzzle.{Puzzle, width, height}
-use Rattle.numbering.specs.Variables.{hue, variables}
+use Rattle.lines.specs.Clue.{gap}
+use Rattle.lines.proofs.Packing.{packed-length}
+use Rattle.puzzles.specs.Puzzle.{Puzzle, width, height, lines, clueAt}
+use Rattle.numbering.specs.Variables.{lineAt, hue, variables}
 use Rattle.numbering.specs.Names.{Name, position, cell, IsName, number}
 use Rattle.numbering.proofs.OneToOne.{number-within, number-once, number-named}
 use Rattle.grids.specs.Grid.{row, column}
-use Rattle.pictures.specs.Pictures.{Model, value}
+use Rattle.pictures.specs.Pictures.{Extends, Model, value}
+use Rattle.pictures.proofs.Choices.{choice}
+use Rattle.pictures.proofs.LineArranged.{Stand}
 use Rattle.pictures.proofs.LineReads.{offsets}
 
 module _ (z : Puzzle) (grid : List ℕ) where
-  unfoldable pub lineOf : ℕ → List ℕ
+  -- line l, columns from 0, rows from width
+  unfoldable lineOf : ℕ → List ℕ
   lineOf l = cond (ltb l (width z)) (column (width z) (height z) grid l) (row (width z) grid (l - width z))
 
   -- what the grid says of a name
-  unfoldable pub told : Name → Bool
+  unfoldable told : Name → Bool
   told (position l b i) = eqb i (offsets (lineOf l) b)
   told (cell x y r) = eqb (getD grid (y * width z + x) 0) (hue z r)
 
-  -- the name of the variable i + 1
-  named : (i : ℕ) → i < variables z → (n : Name) × IsName z n × (number z n ≡ suc i)
-  named i h = number-named z (suc i) (omega arith) h
+  -- and so of the variable i + 1, by its name
+  abbrev ToldOf : ℕ → Bool → Type 0
+  ToldOf i b = (n : Name) → IsName z n → number z n ≡ suc i → b ≡ told n
 
-  -- and what it says of the variable
-  toldBy : (i : ℕ) → Dec (i < variables z) → Bool
-  toldBy i (yes h) = told (named i h .0)
-  toldBy i (no h) = false
-
-  toldOf : ℕ → Bool
-  toldOf i = toldBy i (decLt i (variables z))
-
-  told-named : (n : Name) → IsName z n → (i : ℕ) → suc i ≡ number z n → (d : Dec (i < variables z)) → toldBy i d ≡ told n
-  unfolding toldBy
-  told-named n h i e (yes k) =
-      let (m, j, q) = named i k in
-      ap told (number-once z m n j h (q ∙ e))
-  told-named n h i e (no k) = absurd (omega (arith, number-within z n h .1))
+  toldOf : (f : ℕ → Bool) × ((i : ℕ) → i < variables z → ToldOf i (f i))
+  toldOf =
+      choice ToldOf (variables z) false (λ i h.
+      let (m, j, q) = number-named z (suc i) (omega arith) h in
+      (told m, λ n k e. ap told (number-once z m n j k (q ∙ sym e))))
 
   pub model : List ℕ
-  model = tab (variables z) (λ i. cond (toldOf i) 1 0)
+  model = tab (variables z) (λ i. cond (toldOf .0 i) 1 0)
 
-  byte-at : (i : ℕ) → i < variables z → getD model i 0 ≡ cond (toldOf i) 1 0
+  byte-at : (i : ℕ) → i < variables z → getD model i 0 ≡ cond (toldOf .0 i) 1 0
   unfolding model
-  byte-at i h = getD-tab {A = ℕ} (variables z) (λ i. cond (toldOf i) 1 0) 0 i h
+  byte-at i h = getD-tab {A = ℕ} (variables z) (λ i. cond (toldOf .0 i) 1 0) 0 i h
 
   pub is-model : Model z model
-  is-model = record { size = size; bytes = λ i h. rw (byte-at i (rw size at h)) (most (toldOf i)) }
+  is-model = record { size = size; bytes = λ i h. rw (byte-at i (rw size at h)) (most (toldOf .0 i)) }
     where
       size : length model ≡ variables z
       size = unfold model in length-tab (variables z) _
@@ -63,13 +59,34 @@ module _ (z : Puzzle) (grid : List ℕ) where
       most false = omega arith
 
   -- its assignment says of each name's variable what the grid says
-  pub model-told : (n : Name) → IsName z n → value model (number z n) ≡ told n
-  unfolding toldOf
+  model-told : (n : Name) → IsName z n → value model (number z n) ≡ told n
   model-told n h =
       let (low, most) = number-within z n h in
       let i = number z n - 1 in
-      ap (λ (x : ℕ). eqb x 1) (byte-at i (omega arith)) ∙ is-byte (toldOf i) ∙ told-named n h i (omega arith) (decLt i (variables z))
+      let k : i < variables z = omega arith in
+      ap (λ (x : ℕ). eqb x 1) (byte-at i k) ∙ is-byte (toldOf .0 i) ∙ toldOf .1 i k n h (omega arith)
     where
       is-byte : (b : Bool) → eqb (cond b 1 0) 1 ≡ b
       is-byte true = refl
       is-byte false = refl
+
+  -- so it extends the grid
+  pub model-extends : Extends z grid (value model)
+  unfolding told
+  model-extends x y r h k l = model-told (cell x y r) (h, k, l)
+
+  -- and its blocks stand where the lines show them
+  stands : (l : ℕ) → l < lines z → Stand (value model) (lineAt z l) (offsets (lineOf l))
+  unfolding lineAt told
+  stands l h b i k j = model-told (position l b i) (h, omega (arith, packed-length gap (clueAt z l)), j)
+
+  pub model-column : (x : ℕ) → x < width z → Stand (value model) (lineAt z x) (offsets (column (width z) (height z) grid x))
+  unfolding lineOf
+  model-column x h = let e = lt-ltb x (width z) h in rw e at (stands x (omega arith))
+
+  pub model-row : (y : ℕ) → y < height z → Stand (value model) (lineAt z (width z + y)) (offsets (row (width z) grid y))
+  unfolding lineOf
+  model-row y h =
+      let e = le-ltb (width z + y) (width z) (omega arith) in
+      let q : width z + y - width z ≡ y = omega arith in
+      rw (e, q) at (stands (width z + y) (omega arith))

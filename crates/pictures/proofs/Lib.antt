@@ -1,3 +1,4 @@
+pub mod Choices
 pub mod TrueClauses
 pub mod EachFamily
 pub mod ColorsOfK

@@ -1,6 +1,6 @@
 -- Families 1 to 8 of one line, over any gap: its true positions are those of one arrangement, and its cells those of its rendering.
 use mathlib.Core.Path.{_≡_, refl, sym, _∙_}
-use mathlib.Core.Bool.{Bool, true, false, true≢false}
+use mathlib.Core.Bool.{true, false, true≢false, not-eq-not}
 use mathlib.Core.List.{List}
 use Prim.Native.Nat.{ℕ, _≤_, _<_}
 use native.Mathlib.Omega.{arith}
@@ -16,17 +16,22 @@ use Rattle.lines.proofs.Rendering.{cell-covered, covered-cell}
 use Rattle.numbering.specs.Variables.{Line, many, placedAt, variable}
 use Rattle.pictures.specs.Truth.{Assignment}
 use Rattle.pictures.specs.Meaning.{NotBoth, SomePosition, OnePosition, IsCovered, IsColored}
+use Rattle.pictures.proofs.Choices.{choice}
+
+-- each block b stands at its position o b alone
+abbrev pub Stand : Assignment → Line → (ℕ → ℕ) → Type 0
+Stand β L o = (b i : ℕ) → b < many L → i < L .positions → β (variable L b i) ≡ eqb i (o b)
 
 module _ {g : ℕ → ℕ → ℕ} (G : Gap g) {bs : List Block} (p : Proper bs) {n : ℕ} (fits : minSpace g bs ≤ n) (first : ℕ) (β : Assignment) where
   abbrev L : Line
   L = record { first = first; positions = positions g n bs; runs = packed g bs }
 
-  abbrev pub Apart : Type 0
+  abbrev Apart : Type 0
   Apart = (a b i j : ℕ) → a < b → b < many L → i < L .positions → j < L .positions → clash g (placedAt L a i) (placedAt L b j) ≡ true → NotBoth β (variable L a i) (variable L b j)
 
-  -- the true positions are o
-  abbrev pub Stand : (ℕ → ℕ) → Type 0
-  Stand o = (b i : ℕ) → b < many L → i < L .positions → β (variable L b i) ≡ eqb i (o b)
+  -- block b stands at its position i
+  abbrev StandsAt : ℕ → ℕ → Type 0
+  StandsAt b i = (i < L .positions) × (β (variable L b i) ≡ true)
 
   in-line : (b : ℕ) → b < length bs → b < many L
   in-line b h = omega (arith, packed-length g bs)
@@ -36,33 +41,27 @@ module _ {g : ℕ → ℕ → ℕ} (G : Gap g) {bs : List Block} (p : Proper bs)
 
   -- ---- families 1 to 6
 
-  pub stands-arranged : SomePosition β L → OnePosition β L → Apart → (o : ℕ → ℕ) × Arranged g n bs o × Stand o
+  pub stands-arranged : SomePosition β L → OnePosition β L → Apart → (o : ℕ → ℕ) × Arranged g n bs o × Stand β L o
   stands-arranged some one apart = (
     o,
     record { fits = fits; below = λ b h. chosen b (in-line b h) .0; apart = λ a b l h. clear a b l (in-line b h) },
     stand,
   )
     where
-      choose : (b : ℕ) → Dec (b < many L) → ℕ
-      choose b (yes h) = some b h .0
-      choose b (no h) = 0
+      picked : (o : ℕ → ℕ) × ((b : ℕ) → b < many L → StandsAt b (o b))
+      picked = choice StandsAt (many L) 0 (λ b h. let (i, k, e) = some b h in (i, (k, e)))
 
       o : ℕ → ℕ
-      o b = choose b (decLt b (many L))
+      o = picked .0
 
-      chosen : (b : ℕ) → b < many L → (o b < L .positions) × (β (variable L b (o b)) ≡ true)
-      chosen b h = go (decLt b (many L))
-        where
-          go : (d : Dec (b < many L)) → (choose b d < L .positions) × (β (variable L b (choose b d)) ≡ true)
-          go (yes k) = (some b k .1, some b k .2)
-          go (no k) = absurd (k h)
+      chosen : (b : ℕ) → b < many L → StandsAt b (o b)
+      chosen = picked .1
 
       clear : (a b : ℕ) → a < b → b < many L → clash g (placedAt L a (o a)) (placedAt L b (o b)) ≡ false
-      clear a b l h = go (clash g (placedAt L a (o a)) (placedAt L b (o b))) refl
-        where
-          go : (t : Bool) → clash g (placedAt L a (o a)) (placedAt L b (o b)) ≡ t → t ≡ false
-          go true e = absurd (apart a b (o a) (o b) l h (chosen a (omega arith) .0) (chosen b h .0) e (chosen a (omega arith) .1) (chosen b h .1))
-          go false e = refl
+      clear a b l h =
+          let (k, e) = chosen a (omega arith) in
+          let (i, f) = chosen b h in
+          not-eq-not {b = false} .0 (λ c. apart a b (o a) (o b) l h k i c e f)
 
       -- a true position is the chosen one
       same : (b i : ℕ) → b < many L → i < L .positions → β (variable L b i) ≡ true → i ≡ o b
@@ -74,10 +73,10 @@ module _ {g : ℕ → ℕ → ℕ} (G : Gap g) {bs : List Block} (p : Proper bs)
         ]
       ]
 
-      stand : Stand o
+      stand : Stand β L o
       stand b i h k = same-tests _ _ (λ e. eq-eqb i (o b) (same b i h k e)) (λ e. rw (eqb-true i (o b) e) (chosen b h .1))
 
-  module _ {o : ℕ → ℕ} (A : Arranged g n bs o) (S : Stand o) where
+  module _ {o : ℕ → ℕ} (A : Arranged g n bs o) (S : Stand β L o) where
     stands : (b : ℕ) → b < many L → β (variable L b (o b)) ≡ true
     stands b h = S b (o b) h (A .below b (in-clue b h)) ∙ eq-eqb (o b) (o b) refl
 

@@ -8,7 +8,6 @@ use native.Mathlib.Decide.{decLt}
 use lib.Dec.{eqb}
 use lib.ListN.{length, getD}
 use lib.Seq.{ext-getD}
-use borrow.Author.Tests.{eq-eqb, eqb-true}
 use Rattle.lines.specs.Clue.{gap}
 use Rattle.lines.specs.Line.{runs}
 use Rattle.lines.specs.Arrangement.{Arranged, render}
@@ -24,24 +23,8 @@ use Rattle.numbering.specs.Variables.{lineAt, many, variable, hues, hue}
 use Rattle.pictures.specs.Truth.{Assignment}
 use Rattle.pictures.specs.Meaning.{SomePosition, OnePosition, NoConflict, IsCovered, IsColored}
 use Rattle.pictures.specs.Pictures.{IsColor}
-use Rattle.pictures.proofs.ColorsOfK.{hue-known, known-hue}
-use Rattle.pictures.proofs.LineArranged.{stands-arranged, arranged-some, arranged-one, arranged-apart, cell-shown, shown-covered, shown-colored}
-
--- colours of K are the same where they are the same to each colour's test
-pub same-color : (z : Puzzle) (c d : ℕ) → IsColor z c → IsColor z d → ((r : ℕ) → r < hues z → eqb c (hue z r) ≡ eqb d (hue z r)) → c ≡ d
-same-color z c d C D e = elim (decLt 0 c) [
-  | yes h ↦ sym (to c d C h e)
-  | no h ↦ elim (decLt 0 d) [
-    | yes k ↦ to d c D k (λ r l. sym (e r l))
-    | no k ↦ omega arith
-  ]
-]
-  where
-    to : (c d : ℕ) → IsColor z c → 0 < c → ((r : ℕ) → r < hues z → eqb c (hue z r) ≡ eqb d (hue z r)) → d ≡ c
-    to c d (inl n) h e = absurd (omega arith)
-    to c d (inr k) h e =
-        let (r, l, q) = known-hue z c h k in
-        eqb-true d (hue z r) (sym (e r l) ∙ eq-eqb c (hue z r) (sym q)) ∙ q
+use Rattle.pictures.proofs.ColorsOfK.{hue-known, same-color}
+use Rattle.pictures.proofs.LineArranged.{Stand, stands-arranged, arranged-some, arranged-one, arranged-apart, cell-shown, shown-covered, shown-colored}
 
 -- what families 1 to 8 say of line l; v t r is the variable of cell t's r-th colour
 pub record LineSaid (z : Puzzle) (l : ℕ) (β : Assignment) (v : ℕ → ℕ → ℕ) : Type 0 where
@@ -77,8 +60,7 @@ module _ (z : Puzzle) (G : Good z) (l : ℕ) (h : l < lines z) where
     -- the positions are those of an arrangement that shows the cells
     line-arranged : LineSaid z l β v → LineCells z l β v cells
         → (o : ℕ → ℕ) × Arranged gap (lengthAt z l) (clueAt z l) o
-        × ((b i : ℕ) → b < many (lineAt z l) → i < lineAt z l .positions → β (variable (lineAt z l) b i) ≡ eqb i (o b))
-        × (render gap (lengthAt z l) (clueAt z l) o ≡ cells)
+        × Stand β (lineAt z l) o × (render gap (lengthAt z l) (clueAt z l) o ≡ cells)
     unfolding lineAt
     line-arranged S C =
         let (o, A, T) = stands-arranged base-gap (G .proper l h) (G .fits l h) (firstAt z l) β (S .some) (S .one) (S .apart) in
@@ -97,9 +79,7 @@ module _ (z : Puzzle) (G : Good z) (l : ℕ) (h : l < lines z) where
         ap runs (sym e) ∙ read-back base-gap (G .proper l h) A
 
     -- and the other way round, with the offsets that the cells show
-    pub reads-said : runs cells ≡ clueAt z l → LineCells z l β v cells
-        → ((b i : ℕ) → b < many (lineAt z l) → i < lineAt z l .positions → β (variable (lineAt z l) b i) ≡ eqb i (offsets cells b))
-        → LineSaid z l β v
+    pub reads-said : runs cells ≡ clueAt z l → LineCells z l β v cells → Stand β (lineAt z l) (offsets cells) → LineSaid z l β v
     unfolding lineAt offsets
     reads-said e C T =
         let (o, A₀, s₀) = arranged base-gap cells (base-spaced cells) in

@@ -1,7 +1,7 @@
 -- What family 10 says of a cell: it obeys its mask.
 use mathlib.Core.Path.{_≡_, refl, sym, ap, _∙_}
 use mathlib.Core.Bool.{Bool, true, false, cond, false≢true, not-eq-not}
-use mathlib.Core.Logic.{_⊎_, inl, inr, ⊎-elim}
+use mathlib.Core.Logic.{⊎-elim}
 use Prim.Native.Nat.{ℕ, zero, suc, _+_, _≤_, _<_}
 use native.Mathlib.Omega.{arith}
 use lib.Dec.{eqb}
@@ -17,7 +17,7 @@ use Rattle.counts.proofs.OverColors.{palette-count}
 use Rattle.counts.proofs.UnitClauses.{bits-set, solved-some}
 use Rattle.pictures.specs.Meaning.{MaskSays}
 use Rattle.pictures.specs.Pictures.{IsColor, permits, obeys}
-use Rattle.pictures.proofs.ColorsOfK.{palette-all, hue-known, hue-most, known-hue}
+use Rattle.pictures.proofs.ColorsOfK.{palette-all, hue-known, hue-most, known-hue, color-cases, color-most}
 
 -- ---- a solved mask has one bit
 
@@ -44,17 +44,6 @@ module _ (mask : ℕ) (s : solved mask ≡ true) where
       let u : r ≡ t = omega (arith, one-bit) in
       sym e ∙ ap (λ r. getD (palette mask) r 0) u ∙ f
 
--- ---- a cell that is blank or has a colour of K
-
-module _ (z : Puzzle) where
-  color-cases : (c : ℕ) → IsColor z c → (c ≡ 0) ⊎ ((r : ℕ) × (r < hues z) × (hue z r ≡ c))
-  color-cases zero C = inl refl
-  color-cases (suc c) (inl e) = inl e
-  color-cases (suc c) (inr e) = inr (known-hue z (suc c) (omega arith) e)
-
-  color-most : (c : ℕ) → IsColor z c → c ≤ 31
-  color-most c C = ⊎-elim (λ e. omega arith) (λ (r, h, e). omega (arith, hue-most z r h)) (color-cases c C)
-
 -- ---- obeying, by cases
 
 module _ (mask c : ℕ) where
@@ -74,7 +63,7 @@ module _ (mask c : ℕ) where
 -- ---- the theorem
 
 -- the unit clauses of a cell of colour c, of its r-th variable
-abbrev pub UnitOf : Puzzle → ℕ → ℕ → ℕ → Type 0
+abbrev UnitOf : Puzzle → ℕ → ℕ → ℕ → Type 0
 UnitOf z mask c r = MaskSays mask (hue z r) (eqb c (hue z r))
 
 module _ (z : Puzzle) (mask c : ℕ) (C : IsColor z c) where

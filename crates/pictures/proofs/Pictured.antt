@@ -2,27 +2,24 @@
 use mathlib.Core.Path.{_≡_, sym, ap, _∙_}
 use mathlib.Core.Bool.{true}
 use mathlib.Core.List.{List}
-use Prim.Native.Nat.{ℕ, _+_, _-_, _*_, _≤_, _<_}
+use Prim.Native.Nat.{ℕ, _+_, _*_, _<_}
 use native.Mathlib.Omega.{arith}
 use lib.Dec.{eqb}
 use lib.ListN.{length, getD}
-use borrow.Author.Tests.{lt-ltb, le-ltb, eqb-true}
-use Rattle.lines.specs.Clue.{gap}
-use Rattle.lines.proofs.Packing.{packed-length}
-use Rattle.puzzles.specs.Puzzle.{Puzzle, width, height, lines, clueAt}
+use borrow.Author.Tests.{eqb-true}
+use Rattle.puzzles.specs.Puzzle.{Puzzle, width, height}
 use Rattle.puzzles.specs.Good.{Good}
 use Rattle.puzzles.proofs.Lines.{clue-column, length-column, clue-row, length-row}
-use Rattle.numbering.specs.Variables.{lineAt, many, variable, hue, cellVariable}
-use Rattle.numbering.specs.Names.{Name, position, cell, IsName, number}
+use Rattle.numbering.specs.Variables.{hue, cellVariable}
 use Rattle.grids.specs.Grid.{row, column}
 use Rattle.grids.proofs.Cells.{cell-within, row-length, row-cell, column-length, column-cell}
 use Rattle.pictures.specs.Truth.{Assignment}
 use Rattle.pictures.specs.Meaning.{Said}
-use Rattle.pictures.specs.Pictures.{IsColor, Grid, Picture, Extends, obeys}
+use Rattle.pictures.specs.Pictures.{IsColor, Grid, Picture, Extends, obeys, value}
 use Rattle.pictures.proofs.ColorsOfK.{hue-once}
-use Rattle.pictures.proofs.LineReads.{LineSaid, LineCells, offsets, said-reads, reads-said}
+use Rattle.pictures.proofs.LineReads.{LineSaid, LineCells, said-reads, reads-said}
 use Rattle.pictures.proofs.Masks.{units-obeyed, obeyed-units}
-use Rattle.pictures.proofs.GridModel.{lineOf, told}
+use Rattle.pictures.proofs.GridModel.{model, model-extends, model-column, model-row}
 use Rattle.pictures.proofs.ShownGrid.{each-cell}
 
 module _ (z : Puzzle) where
@@ -85,37 +82,24 @@ module _ (z : Puzzle) where
           units-obeyed z _ _ (cell-known Q x y j k) (G .solved-known _ known) (λ r l. rw (← E x y r j k l) (S .units x y r j k l))) i (rw (Q .cells) at h);
     }
 
-    -- ---- a picture's assignment satisfies the families
+    -- ---- a picture's model satisfies the families
 
-    module _ (P : Picture z grid) (β : Assignment) (T : (n : Name) → IsName z n → β (number z n) ≡ told z grid n) where
-      pub told-extends : Extends z grid β
-      unfolding told
-      told-extends x y r h k l = T (cell x y r) (h, k, l)
+    module _ (P : Picture z grid) where
+      abbrev β : Assignment
+      β = value (model z grid)
 
-      stands : (l : ℕ) → l < lines z → (b i : ℕ) → b < many (lineAt z l) → i < lineAt z l .positions → β (variable (lineAt z l) b i) ≡ eqb i (offsets (lineOf z grid l) b)
-      unfolding lineAt told
-      stands l h b i k j = T (position l b i) (h, omega (arith, packed-length gap (clueAt z l)), j)
-
-      line-column : (x : ℕ) → x < width z → lineOf z grid x ≡ column (width z) (height z) grid x
-      unfolding lineOf
-      line-column x h = rw (lt-ltb _ _ h)
-
-      line-row : (y : ℕ) → lineOf z grid (width z + y) ≡ row (width z) grid y
-      unfolding lineOf
-      line-row y =
-          let h : width z ≤ width z + y = omega arith in
-          let e : width z + y - width z ≡ y = omega arith in
-          rw (le-ltb _ _ h, e)
+      abbrev E : Extends z grid β
+      E = model-extends z grid
 
       told-column : (x : ℕ) → x < width z → LineSaid z x β (columnCell x)
       told-column x h =
-          reads-said z G x (omega arith) (P .columns-read x h ∙ sym (clue-column z x h)) (column-cells Q told-extends x h)
-          (λ b i k j. rw (← line-column x h) (stands x (omega arith) b i k j))
+          reads-said z G x (omega arith) (P .columns-read x h ∙ sym (clue-column z x h)) (column-cells Q E x h)
+          (model-column z grid x h)
 
       told-row : (y : ℕ) → y < height z → LineSaid z (width z + y) β (rowCell y)
       told-row y h =
-          reads-said z G (width z + y) (omega arith) (P .rows-read y h ∙ sym (clue-row z y)) (row-cells Q told-extends y h)
-          (λ b i k j. rw (← line-row y) (stands (width z + y) (omega arith) b i k j))
+          reads-said z G (width z + y) (omega arith) (P .rows-read y h ∙ sym (clue-row z y)) (row-cells Q E y h)
+          (model-row z grid y h)
 
       pub picture-said : Said z β
       picture-said = record {
@@ -128,12 +112,11 @@ module _ (z : Puzzle) where
         covered = λ x y r h k l. (told-column x h .covered y r (rw (length-column z x h) k) l, told-row y k .covered x r (rw (length-row z y) h) l);
         colored = λ x y r h k l. (told-column x h .colored y r (rw (length-column z x h) k) l, told-row y k .colored x r (rw (length-row z y) h) l);
         one-color = λ x y r s h k l m e f.
-            let E = told-extends in
             let c = getD grid (y * width z + x) 0 in
             let q = eqb-true c (hue z r) (sym (E x y r h k (omega arith)) ∙ e) in
             let p = eqb-true c (hue z s) (sym (E x y s h k m) ∙ f) in
             omega (arith, hue-once z r s (omega arith) m (sym q ∙ p));
         units = λ x y r h k l.
             let c = cell-within (width z) (height z) x y h k in
-            rw (told-extends x y r h k l) (obeyed-units z _ _ (cell-known Q x y h k) (P .masks-obeyed _ (rw (Q .cells) c)) r l);
+            rw (E x y r h k l) (obeyed-units z _ _ (cell-known Q x y h k) (P .masks-obeyed _ (rw (Q .cells) c)) r l);
       }

@@ -21,8 +21,7 @@ use Rattle.grids.proofs.Cells.{cell-within}
 use Rattle.pictures.specs.Truth.{Assignment}
 use Rattle.pictures.specs.Meaning.{OneColor}
 use Rattle.pictures.specs.Pictures.{IsColor, Grid, Extends, colorOf, firstCell, shown}
-use Rattle.pictures.proofs.ColorsOfK.{hue-known, hue-once}
-use Rattle.pictures.proofs.LineReads.{same-color}
+use Rattle.pictures.proofs.ColorsOfK.{hue-known, hue-once, same-color}
 
 -- ---- cells by column and row
 

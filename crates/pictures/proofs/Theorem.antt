@@ -1,9 +1,9 @@
--- Condition 3, of every puzzle whose words are accepted.
+-- Condition 3.
 use mathlib.Core.Path.{_≡_, sym, subst, _∙_}
 use mathlib.Core.Bool.{false}
-use mathlib.Core.Logic.{_↔_}
+use mathlib.Core.Logic.{_↔_, Iff·rfl}
 use mathlib.Core.List.{List, _++_, map}
-use Prim.Native.Nat.{ℕ, suc, _+_, _-_, _≤_, _<_}
+use Prim.Native.Nat.{ℕ, suc, _-_, _≤_, _<_}
 use native.Mathlib.Omega.{arith}
 use native.Mathlib.Decide.{ℕ-discrete}
 use lib.Dec.{eqb}
@@ -21,9 +21,9 @@ use Rattle.pictures.specs.Meaning.{Said}
 use Rattle.pictures.specs.Pictures.{Grid, Picture, Solves, Extends, Model, value, shown, blocking, member, PictureIs, Unique, Blocking, OneToOne, Condition3}
 use Rattle.pictures.proofs.TrueClauses.{Holds, append-means, map-means}
 use Rattle.pictures.proofs.EachFamily.{solved-said}
-use Rattle.pictures.proofs.GridModel.{model, is-model, model-told}
+use Rattle.pictures.proofs.GridModel.{model, is-model, model-extends}
 use Rattle.pictures.proofs.ShownGrid.{shown-is-grid, shown-extends, extends-shown}
-use Rattle.pictures.proofs.Pictured.{said-picture, told-extends, picture-said}
+use Rattle.pictures.proofs.Pictured.{said-picture, picture-said}
 use Rattle.pictures.proofs.Determined.{same-everywhere}
 use Rattle.pictures.proofs.Blocked.{blocking-differs, differs-blocking}
 
@@ -38,7 +38,7 @@ same-byte a b h k e = elim (ℕ-discrete a 1) [
 ]
 
 -- models that agree at every variable are equal
-pub same-model : (z : Puzzle) (m n : List ℕ) → Model z m → Model z n → ((v : ℕ) → 0 < v → v ≤ variables z → value m v ≡ value n v) → m ≡ n
+same-model : (z : Puzzle) (m n : List ℕ) → Model z m → Model z n → ((v : ℕ) → 0 < v → v ≤ variables z → value m v ≡ value n v) → m ≡ n
 same-model z m n M N same =
     ext-getD 0 m n (M .size ∙ sym (N .size)) (λ i h.
     let e : suc i - 1 ≡ i = omega arith in
@@ -49,25 +49,23 @@ module _ (z : Puzzle) (G : Good z) where
   said : {β : Assignment} → Solves z β → Said z β
   said {β} s = solved-said z β .0 s
 
-  -- ---- 1
+  -- ---- Picture
 
-  module _ {grid : List ℕ} (Q : Grid z grid) (P : Picture z grid) where
-    model-solves : Solves z (value (model z grid))
-    model-solves = solved-said z (value (model z grid)) .1 (picture-said z G Q P (value (model z grid)) (model-told z grid))
-
-    model-extends : Extends z grid (value (model z grid))
-    model-extends = told-extends z G Q P (value (model z grid)) (model-told z grid)
+  -- the model of a picture
+  model-solves : {grid : List ℕ} → Grid z grid → Picture z grid → Solves z (value (model z grid))
+  model-solves {grid} Q P = solved-said z (value (model z grid)) .1 (picture-said z G Q P)
 
   picture-is : PictureIs z
-  picture-is grid Q = (λ s. said-picture z G Q (said (s .1)) (s .2), λ P. (value (model z grid), model-solves Q P, model-extends Q P))
+  picture-is grid Q = (λ s. said-picture z G Q (said (s .1)) (s .2), λ P. (value (model z grid), model-solves Q P, model-extends z grid))
 
-  -- ---- 2
+  -- ---- Unique
 
   unique : Unique z
   unique grid β γ s t e f = same-everywhere z G (said s) (said t) (λ x y r h k l. e x y r h k l ∙ sym (f x y r h k l))
 
-  -- ---- 3
+  -- ---- Blocking
 
+  -- it shows the grid that it extends
   shows : (β : Assignment) → Solves z β → {grid : List ℕ} → Grid z grid → Extends z grid β → shown z β ≡ grid
   shows β s {grid} Q e = extends-shown z β (said s .one-color) grid Q e
 
@@ -78,28 +76,30 @@ module _ (z : Puzzle) (G : Good z) where
         (picture-is grid Q .0 (s .0, b, s .2), λ i h q. blocking-differs z G (said b) (said (solve i h)) (cs i h) (q ∙ sym (shows (s .0) b Q (s .2)))),
     λ P.
         let b = model-solves Q (P .0) in
-        let e = model-extends Q (P .0) in
+        let e = model-extends z grid in
         let β = value (model z grid) in
         (β, both β .1 (b, λ i h. differs-blocking z G (said b) (said (solve i h)) (λ q. P .1 i h (q ∙ shows β b Q e))), e),
   )
     where
       both : (β : Assignment) → Satisfies β (clauses z ++ map (blocking z) L) ↔ (Solves z β × ((i : ℕ) → i < length L → Holds β (blocking z (member L i))))
-      both β = append-means β (clauses z) (map (blocking z) L) (λ h. h, λ h. h) (map-means β (blocking z) L (λ v. false) (λ i h. (λ h. h, λ h. h)))
+      both β = append-means β (clauses z) (map (blocking z) L) Iff·rfl (map-means β (blocking z) L (λ v. false) (λ i h. Iff·rfl))
 
-  -- ---- 4
+  -- ---- Count
 
+  -- and extends the grid that it shows
   extends : (β : Assignment) → Solves z β → Extends z (shown z β) β
   extends β s = shown-extends z β (said s .one-color)
 
   one-to-one : OneToOne z
   one-to-one = record {
-    shows = λ β s. (shown-is-grid z β, said-picture z G (shown-is-grid z β) (said s) (extends β s));
+    shows = λ β s. (shown-is-grid z β, said-picture z G (shown-is-grid z β) (said s) (extends β s), extends β s);
     once = λ m n M N s t e.
         same-model z m n M N
         (unique (shown z (value n)) (value m) (value n) s t (subst (λ g. Extends z g (value m)) e (extends (value m) s)) (extends (value n) t));
-    all = λ grid Q P. (model z grid, is-model z grid, model-solves Q P, shows (value (model z grid)) (model-solves Q P) Q (model-extends Q P));
+    all = λ grid Q P. (model z grid, is-model z grid, model-solves Q P, shows (value (model z grid)) (model-solves Q P) Q (model-extends z grid));
   }
 
+-- of every puzzle whose words are accepted
 pub condition-3 : Condition3
 condition-3 ws n e =
     let G = accepted-is ws e .good in

@@ -1,6 +1,6 @@
 -- What makes clauses true. A list's meaning is put together as the list is: all of its clauses for `Satisfies`, some of its literals for `Holds`.
 use mathlib.Core.Path.{_≡_, refl, sym, ap, _∙_}
-use mathlib.Core.Logic.{_↔_, Iff·trans, _⊎_, inl, inr}
+use mathlib.Core.Logic.{_↔_, Iff·rfl, Iff·trans, _⊎_, inl, inr}
 use mathlib.Core.Bool.{Bool, true, false, not, cond, _&&_, _||_, and-true, and-assoc, or-assoc, or-comm, or-false, false≢true}
 use mathlib.Core.List.{List, [], _∷_, _++_, map}
 use Prim.Native.Nat.{ℕ, zero, suc, _+_, _-_, _<_}
@@ -104,7 +104,7 @@ module _ (β : Assignment) where
   some-append [] b = refl
   some-append (l ∷ a) b = rw (some-append a b) (sym (or-assoc (literalTrue β l) (clauseTrue β a) (clauseTrue β b)))
 
-  pub either-means : (a b : Clause) {P Q : Type 0} → Holds β a ↔ P → Holds β b ↔ Q → Holds β (a ++ b) ↔ (P ⊎ Q)
+  either-means : (a b : Clause) {P Q : Type 0} → Holds β a ↔ P → Holds β b ↔ Q → Holds β (a ++ b) ↔ (P ⊎ Q)
   either-means a b {P} {Q} d e = rw (some-append a b) (cases (clauseTrue β a) (clauseTrue β b) d e)
     where
       cases : (x y : Bool) → (x ≡ true) ↔ P → (y ≡ true) ↔ Q → ((x || y) ≡ true) ↔ (P ⊎ Q)
@@ -125,7 +125,7 @@ module _ (β : Assignment) where
 
   pub yes-means : (v : ℕ) → Holds β (positive v ∷ []) ↔ (β v ≡ true)
   unfolding clauseTrue literalTrue
-  yes-means v = rw (or-false (β v)) (λ h. h, λ h. h)
+  yes-means v = rw (or-false (β v)) Iff·rfl
 
   negative-true : (v : ℕ) → 0 < v → literalTrue β (negative v) ≡ not (β v)
   unfolding literalTrue

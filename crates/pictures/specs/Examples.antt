@@ -1,6 +1,16 @@
--- Rows of document 01's table of small puzzles, as words, and grids for them.
-use mathlib.Core.List.{List, [], _∷_}
+-- Rows of document 01's table of small puzzles, and one of two colours: their words, grids for them, and what holds of them.
+use mathlib.Core.Path.{_≡_}
+use mathlib.Core.Bool.{true, false}
+use mathlib.Core.List.{List, [], _∷_, map}
 use Prim.Native.Nat.{ℕ}
+use lib.ListN.{length}
+use Rattle.refusals.specs.Verdict.{accepted}
+use Rattle.literals.specs.Literals.{positive, negative}
+use Rattle.puzzles.specs.Checks.{puzzle, puzzleChecks}
+use Rattle.numbering.specs.Variables.{variables}
+use Rattle.counts.specs.Families.{clauses, buffer}
+use Rattle.grids.specs.Grid.{gridChecks, gridWords}
+use Rattle.pictures.specs.Pictures.{Grid, Picture, obeys, Solves, shown, blocking, value}
 
 -- P8: one cell, its column and its row (1,1), mask 3
 unfoldable pub p8 : List ℕ
@@ -25,6 +35,13 @@ p12 = 1 ∷ 0 ∷ 1 ∷ 0 ∷ 1 ∷ 3 ∷ []
 abbrev pub p12-model : List ℕ
 p12-model = 0 ∷ []
 
+-- no row of the table: width 2, height 1, columns (1,2) and (1,5), row (1,2) (1,5), masks of bits 0, 2 and 5; and its model
+unfoldable pub two : List ℕ
+two = 2 ∷ 1 ∷ 1 ∷ 2 ∷ 1 ∷ 1 ∷ 5 ∷ 1 ∷ 2 ∷ 1 ∷ 2 ∷ 1 ∷ 5 ∷ 2 ∷ 37 ∷ 37 ∷ []
+
+abbrev pub two-model : List ℕ
+two-model = 1 ∷ 1 ∷ 1 ∷ 1 ∷ 1 ∷ 0 ∷ 0 ∷ 1 ∷ []
+
 -- the picture of P8, and that of P10
 abbrev pub full : List ℕ
 full = 1 ∷ []
@@ -41,3 +58,63 @@ rising = 0 ∷ 1 ∷ 1 ∷ 0 ∷ []
 
 abbrev pub level : List ℕ
 level = 1 ∷ 1 ∷ 0 ∷ 0 ∷ []
+
+-- the picture of two colours
+abbrev pub touching : List ℕ
+touching = 2 ∷ 5 ∷ []
+
+-- ---- what holds of them
+
+-- `read_grid` accepts the grid and writes these words
+pub record Read (w h : ℕ) (grid ws : List ℕ) : Type 0 where
+  pub checked : accepted 0 ≡ gridChecks w h grid
+  pub written : gridWords w h grid ≡ ws
+
+-- what computing finds
+pub record Computed : Type 0 where
+  -- the table's are accepted, and K is {1}
+  pub p8-accepted : puzzleChecks p8 ≡ accepted 2
+  pub p10-accepted : puzzleChecks p10 ≡ accepted 2
+  pub p11-accepted : puzzleChecks p11 ≡ accepted 2
+  pub p12-accepted : puzzleChecks p12 ≡ accepted 2
+  -- the clauses of P8, and how many P10 has
+  pub p8-clauses : clauses (puzzle p8)
+      ≡ (positive 1 ∷ []) ∷ (positive 2 ∷ [])
+      ∷ (positive 1 ∷ negative 3 ∷ []) ∷ (positive 2 ∷ negative 3 ∷ [])
+      ∷ (negative 1 ∷ positive 3 ∷ []) ∷ (negative 2 ∷ positive 3 ∷ []) ∷ []
+  pub p10-variables : variables (puzzle p10) ≡ 5
+  pub p10-clauses : length (clauses (puzzle p10)) ≡ 10
+  pub p10-words : length (buffer (puzzle p10)) ≡ 38
+  -- grids that are read as them
+  pub full-read : Read 1 1 full p8
+  pub left-read : Read 2 1 left p10
+  pub falling-read : Read 2 2 falling p11
+  pub rising-read : Read 2 2 rising p11
+  -- the first row of this one is not a block of size 1
+  pub level-off : Picture (puzzle p11) level → ⊥
+  -- a model of P11, its picture and its blocking clause; and those of P12, where the clause is empty
+  pub p11-solved : Solves (puzzle p11) (value p11-model)
+  pub p11-shown : shown (puzzle p11) (value p11-model) ≡ falling
+  pub p11-blocking : blocking (puzzle p11) (value p11-model) ≡ negative 9 ∷ negative 12 ∷ []
+  pub p12-solved : Solves (puzzle p12) (value p12-model)
+  pub p12-shown : shown (puzzle p12) (value p12-model) ≡ 0 ∷ []
+  pub p12-blocking : blocking (puzzle p12) (value p12-model) ≡ []
+  -- the one of two colours: K is {2, 5}
+  pub two-accepted : puzzleChecks two ≡ accepted 36
+  pub touching-read : Read 2 1 touching two
+  pub two-solved : Solves (puzzle two) (value two-model)
+  pub two-shown : shown (puzzle two) (value two-model) ≡ touching
+  pub two-blocking : blocking (puzzle two) (value two-model) ≡ negative 5 ∷ negative 8 ∷ []
+  -- which of blank, 1 and 2 obey: a solved blank, a solved 2, an unsolved mask without 2, and one with no bit 0 and a bit outside K
+  pub solved-blank : map (obeys 1) (0 ∷ 1 ∷ 2 ∷ []) ≡ true ∷ false ∷ false ∷ []
+  pub solved-color : map (obeys 4) (0 ∷ 1 ∷ 2 ∷ []) ≡ false ∷ false ∷ true ∷ []
+  pub excluded : map (obeys 3) (0 ∷ 1 ∷ 2 ∷ []) ≡ true ∷ true ∷ false ∷ []
+  pub blank-stays : map (obeys 34) (0 ∷ 1 ∷ 2 ∷ []) ≡ true ∷ true ∷ false ∷ []
+
+-- and their pictures; P11 has two
+pub record SmallPictures : Type 0 where
+  pub p8-full : Grid (puzzle p8) full × Picture (puzzle p8) full
+  pub p10-left : Grid (puzzle p10) left × Picture (puzzle p10) left
+  pub p11-falling : Grid (puzzle p11) falling × Picture (puzzle p11) falling
+  pub p11-rising : Grid (puzzle p11) rising × Picture (puzzle p11) rising
+  pub two-touching : Grid (puzzle two) touching × Picture (puzzle two) touching

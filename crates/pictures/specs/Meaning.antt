@@ -1,18 +1,20 @@
 -- What each of document 01's ten families says by itself, in the words of its table.
+-- Condition 3 alone would not tell whether 9 is there: it follows from 5 and 7.
 use mathlib.Core.Path.{_≡_}
 use mathlib.Core.Logic.{_↔_}
 use mathlib.Core.Bool.{Bool, true, false}
-use Prim.Native.Nat.{ℕ, _+_, _<_}
+use mathlib.Core.List.{List, []}
+use Prim.Native.Nat.{ℕ, _+_, _-_, _<_}
+use lib.ListN.{length, getD}
+use Rattle.sections.specs.Sections.{Clause}
 use Rattle.lines.specs.Clue.{gap}
 use Rattle.lines.specs.Arrangement.{at, covers, clash}
 use Rattle.puzzles.specs.Puzzle.{Puzzle, width, height}
 use Rattle.puzzles.specs.Colors.{solved}
 use Rattle.bits.specs.Bits.{bit}
 use Rattle.numbering.specs.Variables.{Line, lineAt, many, placedAt, variable, hues, hue, cellVariable}
-use Rattle.placement.specs.Placement.{ofColumns, ofRows}
-use Rattle.placement.specs.declared.rule.Rule.the-variants.{Positions, Once, Overlap}
-use Rattle.cells.specs.Cells.{ofCells, pointOnce, precomputedCells, maskAt}
-use Rattle.cells.specs.declared.rule.Rule.the-variants.{Color, Space}
+use Rattle.cells.specs.Cells.{maskAt}
+use Rattle.counts.specs.Families.{families}
 use Rattle.pictures.specs.Truth.{Assignment, Satisfies}
 
 abbrev pub NotBoth : Assignment → ℕ → ℕ → Type 0
@@ -41,15 +43,15 @@ pub record Covers (L : Line) (c t b i : ℕ) : Type 0 where
   pub color-is : at (L .runs) b .color ≡ c
   pub covered : covers (placedAt L b i) t ≡ true
 
--- 7: of a cell variable v, in a line
+-- 7: where the cell variable v is true, so is a position of its colour that covers the cell
 abbrev pub IsCovered : Assignment → Line → ℕ → ℕ → ℕ → Type 0
 IsCovered β L c t v = β v ≡ true → (b : ℕ) × (i : ℕ) × Covers L c t b i × (β (variable L b i) ≡ true)
 
--- 8: likewise
+-- 8: where a position of its colour that covers the cell is true, so is v
 abbrev pub IsColored : Assignment → Line → ℕ → ℕ → ℕ → Type 0
 IsColored β L c t v = (b i : ℕ) → Covers L c t b i → β (variable L b i) ≡ true → β v ≡ true
 
--- 10, of a cell's mask and a colour's variable: a solved colour is there, nothing is in a solved blank, and no excluded colour in an unsolved cell
+-- 10, of a mask and the variable of colour c: a solved colour's is true, in a solved blank each is false, and in an unsolved cell an excluded colour's
 pub record MaskSays (mask c : ℕ) (told : Bool) : Type 0 where
   pub solved-color : solved mask ≡ true → bit mask 0 ≡ false → bit mask c ≡ true → told ≡ true
   pub solved-blank : solved mask ≡ true → bit mask 0 ≡ true → told ≡ false
@@ -64,7 +66,7 @@ module _ (z : Puzzle) where
   abbrev pub EachRow : (Line → Type 0) → Type 0
   EachRow P = (y : ℕ) → y < height z → P (lineAt z (width z + y))
 
-  -- per cell, colour: in its column and in its row
+  -- per cell, colour: of the column, and of the row
   abbrev pub EachCell : (Line → ℕ → ℕ → ℕ → Type 0) → Type 0
   EachCell P =
       (x y r : ℕ) → x < width z → y < height z → r < hues z
@@ -74,11 +76,11 @@ module _ (z : Puzzle) where
   abbrev pub OneColor : Assignment → Type 0
   OneColor β = (x y r s : ℕ) → x < width z → y < height z → r < s → s < hues z → NotBoth β (cellVariable z x y r) (cellVariable z x y s)
 
-  -- 10
+  -- 10: per cell, colour
   abbrev pub Units : Assignment → Type 0
   Units β = (x y r : ℕ) → x < width z → y < height z → r < hues z → MaskSays (maskAt z x y) (hue z r) (β (cellVariable z x y r))
 
-  -- all that they say
+  -- what all ten say
   pub record Said (β : Assignment) : Type 0 where
     pub some-columns : EachColumn (SomePosition β)
     pub some-rows : EachRow (SomePosition β)
@@ -91,15 +93,20 @@ module _ (z : Puzzle) where
     pub one-color : OneColor β
     pub units : Units β
 
-  -- the ten families, each by itself
+  -- the clauses of a section, numbered as in 01's table
+  abbrev pub section : ℕ → List Clause
+  section n = getD (families z) (n - 1) []
+
+  -- each by itself: its clauses are true exactly where that holds
   pub record Meanings (β : Assignment) : Type 0 where
-    pub one : Satisfies β (ofColumns z Positions) ↔ EachColumn (SomePosition β)
-    pub two : Satisfies β (ofRows z Positions) ↔ EachRow (SomePosition β)
-    pub three : Satisfies β (ofColumns z Once) ↔ EachColumn (OnePosition β)
-    pub four : Satisfies β (ofRows z Once) ↔ EachRow (OnePosition β)
-    pub five : Satisfies β (ofColumns z Overlap) ↔ EachColumn (NoConflict β)
-    pub six : Satisfies β (ofRows z Overlap) ↔ EachRow (NoConflict β)
-    pub seven : Satisfies β (ofCells z Color) ↔ EachCell (IsCovered β)
-    pub eight : Satisfies β (ofCells z Space) ↔ EachCell (IsColored β)
-    pub nine : Satisfies β (pointOnce z) ↔ OneColor β
-    pub ten : Satisfies β (precomputedCells z) ↔ Units β
+    pub sections : length (families z) ≡ 10
+    pub one : Satisfies β (section 1) ↔ EachColumn (SomePosition β)
+    pub two : Satisfies β (section 2) ↔ EachRow (SomePosition β)
+    pub three : Satisfies β (section 3) ↔ EachColumn (OnePosition β)
+    pub four : Satisfies β (section 4) ↔ EachRow (OnePosition β)
+    pub five : Satisfies β (section 5) ↔ EachColumn (NoConflict β)
+    pub six : Satisfies β (section 6) ↔ EachRow (NoConflict β)
+    pub seven : Satisfies β (section 7) ↔ EachCell (IsCovered β)
+    pub eight : Satisfies β (section 8) ↔ EachCell (IsColored β)
+    pub nine : Satisfies β (section 9) ↔ OneColor β
+    pub ten : Satisfies β (section 10) ↔ Units β

@@ -23,24 +23,24 @@ use Rattle.pictures.specs.Truth.{Assignment, Satisfies}
 
 -- ---- pictures
 
--- a cell may be blank or have a colour of K
+-- blank, or a colour of K
 abbrev pub IsColor : Puzzle → ℕ → Type 0
 IsColor z c = (c ≡ 0) ⊎ (bit (colors z) c ≡ true)
 
--- a grid of blanks and row colours, row by row
+-- width times height cells, row by row, each blank or of a colour of K
 pub record Grid (z : Puzzle) (grid : List ℕ) : Type 0 where
   pub cells : length grid ≡ width z * height z
   pub known : (i : ℕ) → i < length grid → IsColor z (getD grid i 0)
 
--- what an unsolved mask permits: blank, and the colours that it has
+-- an unsolved mask permits its colours, and blank whether or not bit 0 is set
 unfoldable pub permits : ℕ → ℕ → Bool
 permits mask c = eqb c 0 || bit mask c
 
--- a solved cell has the colour of the one bit
+-- a solved cell has the colour of its one bit, any other what its mask permits
 unfoldable pub obeys : ℕ → ℕ → Bool
 obeys mask c = cond (solved mask) (bit mask c) (permits mask c)
 
--- every line reads as its clue, and every cell obeys its mask
+-- every column and every row reads as its clue, and every cell obeys its mask
 pub record Picture (z : Puzzle) (grid : List ℕ) : Type 0 where
   pub columns-read : (x : ℕ) → x < width z → runs (column (width z) (height z) grid x) ≡ getD (z .columns) x []
   pub rows-read : (y : ℕ) → y < height z → runs (row (width z) grid y) ≡ getD (z .rows) y []
@@ -48,7 +48,7 @@ pub record Picture (z : Puzzle) (grid : List ℕ) : Type 0 where
 
 -- ---- assignments
 
--- all ten families are true
+-- every clause of the ten families is true
 abbrev pub Solves : Puzzle → Assignment → Type 0
 Solves z β = Satisfies β (clauses z)
 
@@ -58,7 +58,7 @@ Extends z grid β =
     (x y r : ℕ) → x < width z → y < height z → r < hues z
     → β (cellVariable z x y r) ≡ eqb (getD grid (y * width z + x) 0) (hue z r)
 
--- the first of the colours whose variable is true, from v on; blank for none
+-- the first of the colours whose variable is true, their variables counted from v; blank for none
 unfoldable pub colorOf : Assignment → ℕ → List ℕ → ℕ
 colorOf β v [] = 0
 colorOf β v (c ∷ cs) = cond (β v) c (colorOf β (suc v) cs)
@@ -67,7 +67,7 @@ colorOf β v (c ∷ cs) = cond (β v) c (colorOf β (suc v) cs)
 abbrev pub firstCell : Puzzle → ℕ
 firstCell z = firstAt z (lines z)
 
--- the grid of an assignment
+-- the grid that an assignment shows
 unfoldable pub shown : Puzzle → Assignment → List ℕ
 shown z β = tab (width z * height z) (λ i. colorOf β (firstCell z + i * hues z) (palette (colors z)))
 
@@ -75,30 +75,32 @@ shown z β = tab (width z * height z) (λ i. colorOf β (firstCell z + i * hues 
 unfoldable pub blocking : Puzzle → Assignment → Clause
 blocking z β = each (width z * height z * hues z) (λ k. when (β (firstCell z + k)) (negative (firstCell z + k) ∷ []))
 
--- a model is one byte per variable, and its assignment
+-- a model is one byte, 0 or 1, per variable
 pub record Model (z : Puzzle) (model : List ℕ) : Type 0 where
   pub size : length model ≡ variables z
   pub bytes : (i : ℕ) → i < length model → getD model i 0 ≤ 1
 
+-- and what it assigns; variables count from 1
 abbrev pub value : List ℕ → Assignment
 value model v = eqb (getD model (v - 1) 0) 1
 
--- ---- the theorem, of every puzzle whose words are accepted
+-- ---- the theorem, of a puzzle
 
--- Picture: a grid extends to an assignment that satisfies the ten families exactly when it is a picture
+-- Picture: some assignment satisfies the ten families and extends the grid exactly when the grid is a picture
 abbrev pub PictureIs : Puzzle → Type 0
 PictureIs z = (grid : List ℕ) → Grid z grid → ((β : Assignment) × Solves z β × Extends z grid β) ↔ Picture z grid
 
--- Unique: there is only one such assignment of the variables 1 to V
+-- Unique: two such assignments of one grid agree on the variables 1 to V
 abbrev pub Unique : Puzzle → Type 0
 Unique z =
     (grid : List ℕ) (β γ : Assignment) → Solves z β → Solves z γ → Extends z grid β → Extends z grid γ
     → (v : ℕ) → 0 < v → v ≤ variables z → β v ≡ γ v
 
--- Blocking: with the blocking clauses of any list of them, exactly the pictures that are not in the list remain
+-- the i-th of a list
 abbrev pub member : List Assignment → ℕ → Assignment
 member L i = getD L i (λ v. false)
 
+-- Blocking: add the blocking clauses of any list of such assignments, and exactly the pictures that none of them shows remain
 abbrev pub Blocking : Puzzle → Type 0
 Blocking z =
     (L : List Assignment) → ((i : ℕ) → i < length L → Solves z (member L i))
@@ -108,8 +110,11 @@ Blocking z =
 
 -- Count: the models that satisfy the ten families and the pictures are one to one
 pub record OneToOne (z : Puzzle) : Type 0 where
-  pub shows : (β : Assignment) → Solves z β → Grid z (shown z β) × Picture z (shown z β)
+  -- an assignment shows a picture, the one that it extends
+  pub shows : (β : Assignment) → Solves z β → Grid z (shown z β) × Picture z (shown z β) × Extends z (shown z β) β
+  -- no two models show the same
   pub once : (m n : List ℕ) → Model z m → Model z n → Solves z (value m) → Solves z (value n) → shown z (value m) ≡ shown z (value n) → m ≡ n
+  -- and each picture is shown
   pub all : (grid : List ℕ) → Grid z grid → Picture z grid → (m : List ℕ) × Model z m × Solves z (value m) × (shown z (value m) ≡ grid)
 
 pub record Theorem (z : Puzzle) : Type 0 where
@@ -118,6 +123,7 @@ pub record Theorem (z : Puzzle) : Type 0 where
   pub blocked : Blocking z
   pub count : OneToOne z
 
+-- it holds of every puzzle whose words are accepted
 abbrev pub Condition3 : Type 0
 Condition3 = (ws : List ℕ) (n : ℕ) → accepted n ≡ puzzleChecks ws → Theorem (puzzle ws)
 
