@@ -15,8 +15,8 @@ use Rattle.numbering.proofs.Bounds.{first-some}
 use Rattle.grids.specs.Grid.{row}
 use Rattle.grids.proofs.Cells.{cell-within, row-length, row-cell}
 use Rattle.pictures.specs.Truth.{Assignment}
-use Rattle.pictures.specs.Meaning.{Said}
 use Rattle.pictures.specs.Pictures.{Extends, firstCell, shown, blocking}
+use Rattle.pictures.proofs.EachFamily.{Said}
 use Rattle.pictures.proofs.ColorsOfK.{known-hue}
 use Rattle.pictures.proofs.TrueClauses.{Holds, some-each-means, some-when-means, no-means}
 use Rattle.pictures.proofs.ShownGrid.{each-color, cell-variable, same-grid, shown-is-grid, shown-extends}

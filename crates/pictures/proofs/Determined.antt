@@ -10,8 +10,8 @@ use Rattle.numbering.specs.Variables.{lineAt, variable, hues, cellVariable, var
 use Rattle.numbering.specs.Names.{Name, position, cell, IsName, number}
 use Rattle.numbering.proofs.OneToOne.{number-named}
 use Rattle.pictures.specs.Truth.{Assignment}
-use Rattle.pictures.specs.Meaning.{Said}
 use Rattle.pictures.specs.Pictures.{Extends, shown}
+use Rattle.pictures.proofs.EachFamily.{Said}
 use Rattle.pictures.proofs.LineReads.{said-once}
 use Rattle.pictures.proofs.ShownGrid.{shown-is-grid, shown-extends}
 use Rattle.pictures.proofs.Pictured.{column-cells, row-cells, column-said, row-said}

@@ -27,7 +27,7 @@ use Rattle.cells.specs.declared.rule.Rule as D
 use Rattle.cells.specs.declared.rule.Rule.the-variants.{Color, Space}
 use Rattle.counts.specs.Families.{families, joined, clauses}
 use Rattle.pictures.specs.Truth.{Assignment, Satisfies}
-use Rattle.pictures.specs.Meaning.{SomePosition, OnePosition, NoConflict, Covers, IsCovered, IsColored, EachColumn, EachRow, EachCell, OneColor, MaskSays, Units, Said, Meanings}
+use Rattle.pictures.specs.Meaning.{SomePosition, OnePosition, NoConflict, Covers, IsCovered, IsColored, EachColumn, EachRow, EachCell, OneColor, MaskSays, Units, Meanings}
 use Rattle.pictures.proofs.TrueClauses.{Holds, none-means, one-means, append-means, cond-means, when-means, each-means, tab-means, pairs-means, product-means, some-when-means, some-each-means, yes-means, no-means, if-means, if-last-means, not-both-means, least-means, most-means}
 
 -- ---- the positions that cover a cell, as literals or clauses are made of them
@@ -170,7 +170,19 @@ meanings z β = record {
   ten = units-mean β z;
 }
 
--- all ten together
+-- what all ten say
+pub record Said (z : Puzzle) (β : Assignment) : Type 0 where
+  pub some-columns : EachColumn z (SomePosition β)
+  pub some-rows : EachRow z (SomePosition β)
+  pub one-columns : EachColumn z (OnePosition β)
+  pub one-rows : EachRow z (OnePosition β)
+  pub apart-columns : EachColumn z (NoConflict β)
+  pub apart-rows : EachRow z (NoConflict β)
+  pub covered : EachCell z (IsCovered β)
+  pub colored : EachCell z (IsColored β)
+  pub one-color : OneColor z β
+  pub units : Units z β
+
 pub solved-said : (z : Puzzle) (β : Assignment) → Satisfies β (clauses z) ↔ Said z β
 unfolding families joined
 solved-said z β =

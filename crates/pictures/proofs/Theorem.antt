@@ -17,10 +17,9 @@ use Rattle.puzzles.proofs.Accepting.{accepted-is}
 use Rattle.numbering.specs.Variables.{variables}
 use Rattle.counts.specs.Families.{clauses}
 use Rattle.pictures.specs.Truth.{Assignment, Satisfies}
-use Rattle.pictures.specs.Meaning.{Said}
 use Rattle.pictures.specs.Pictures.{Grid, Picture, Solves, Extends, Model, value, shown, blocking, member, PictureIs, Unique, Blocking, OneToOne, Condition3}
 use Rattle.pictures.proofs.TrueClauses.{Holds, append-means, map-means}
-use Rattle.pictures.proofs.EachFamily.{solved-said}
+use Rattle.pictures.proofs.EachFamily.{Said, solved-said}
 use Rattle.pictures.proofs.GridModel.{model, is-model, model-extends}
 use Rattle.pictures.proofs.ShownGrid.{shown-is-grid, shown-extends, extends-shown}
 use Rattle.pictures.proofs.Pictured.{said-picture, picture-said}

@@ -80,19 +80,6 @@ module _ (z : Puzzle) where
   abbrev pub Units : Assignment → Type 0
   Units β = (x y r : ℕ) → x < width z → y < height z → r < hues z → MaskSays (maskAt z x y) (hue z r) (β (cellVariable z x y r))
 
-  -- what all ten say
-  pub record Said (β : Assignment) : Type 0 where
-    pub some-columns : EachColumn (SomePosition β)
-    pub some-rows : EachRow (SomePosition β)
-    pub one-columns : EachColumn (OnePosition β)
-    pub one-rows : EachRow (OnePosition β)
-    pub apart-columns : EachColumn (NoConflict β)
-    pub apart-rows : EachRow (NoConflict β)
-    pub covered : EachCell (IsCovered β)
-    pub colored : EachCell (IsColored β)
-    pub one-color : OneColor β
-    pub units : Units β
-
   -- the clauses of a section, numbered as in 01's table
   abbrev pub section : ℕ → List Clause
   section n = getD (families z) (n - 1) []
