@@ -33,14 +33,14 @@ module _ {ws table : List ℕ} {l from end : ℕ} (A : Located ws table l from e
   pub clue-within : end ≤ length ws
   clue-within = omega (arith, ready-within ws table (A .ready) l (A .below) (A .from-is), A .end-is)
 
+  pub part-is : lineOf (take (68 * l + 68 - 68 * l) (drop (68 * l) table)) (take (end - (from + 1)) (drop (from + 1) ws)) ≡ lineAt (puzzle ws) l
+  part-is = ready-line ws table (A .ready) l (A .below) (A .from-is) (A .end-is)
+
   S : Sound (lineAt (puzzle ws) l)
   S = ready-sound ws table (A .ready) l (A .below)
 
-  line-is : lineOf (take (68 * l + 68 - 68 * l) (drop (68 * l) table)) (take (end - (from + 1)) (drop (from + 1) ws)) ≡ lineAt (puzzle ws) l
-  line-is = ready-line ws table (A .ready) l (A .below) (A .from-is) (A .end-is)
-
   pub part-sound : Sound (lineOf (take (68 * l + 68 - 68 * l) (drop (68 * l) table)) (take (end - (from + 1)) (drop (from + 1) ws)))
-  part-sound = rw line-is S
+  part-sound = rw part-is S
 
   pub part-long : 68 ≤ length (take (68 * l + 68 - 68 * l) (drop (68 * l) table))
   part-long = ready-long ws table (A .ready) l (A .below)
@@ -48,9 +48,9 @@ module _ {ws table : List ℕ} {l from end : ℕ} (A : Located ws table l from e
   -- what stands in front of the places for what is found
   module _ (c t : ℕ) {found found′ : List ℕ} {n : ℕ} (w : Wrote (covering (lineOf (take (68 * l + 68 - 68 * l) (drop (68 * l) table)) (take (end - (from + 1)) (drop (from + 1) ws))) c t) found 0 found′ n) where
     found-in : Wrote (covering (lineAt (puzzle ws) l) c t) found 0 found′ n
-    found-in = rw line-is at w
+    found-in = rw part-is at w
 
-    front-few : n ≤ 64
+    pub front-few : n ≤ 64
     front-few = omega (arith, found-in .next-is, covering-most S c t)
 
     pub front-within : 64 ≤ length found → length found′ ≡ length found → n ≤ length found′
@@ -59,7 +59,7 @@ module _ {ws table : List ℕ} {l from end : ℕ} (A : Located ws table l from e
     pub front-length : 64 ≤ length found → length found′ ≡ length found → n ≡ length (take n found′)
     front-length h e = sym (length-take-le n found′ (front-within h e))
 
-    front-is : take n found′ ≡ covering (lineAt (puzzle ws) l) c t
+    pub front-is : take n found′ ≡ covering (lineAt (puzzle ws) l) c t
     front-is = let e : n ≡ length (covering (lineAt (puzzle ws) l) c t) = omega (arith, found-in .next-is) in rw e (wrote-there (omega arith) found-in)
 
     pub front-asked : (rule : Rule) (v at : ℕ) (out : List ℤ) → IsVariable v → at + length (clausesWords (ruled rule v (covering (lineAt (puzzle ws) l) c t))) ≤ length out

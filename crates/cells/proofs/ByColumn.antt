@@ -23,7 +23,7 @@ use Rattle.cells.specs.Given.{Given, ofCell}
 use Rattle.cells.proofs.BoardCells.{cellAt, given-shows, cell-is, cell-variables}
 
 -- the column and the row of a cell
-abbrev both : Puzzle → Board → Ask → ℕ → ℕ → List Clause
+abbrev pub both : Puzzle → Board → Ask → ℕ → ℕ → List Clause
 both z board ask x y = asked z ask x y ++ asked z ask (board .width + y) x
 
 -- the loop over a cell's colours
@@ -36,10 +36,10 @@ coloring-first z rule x y out at h = say-first (hues z) (ofColor z rule x y) out
 module _ {ws table : List ℕ} {board : Board} {palette : List ℕ} (G : Given ws table board palette) where
   module _ (rule : Rule) (x y : ℕ) where
     -- what is asked for the r-th colour
-    abbrev askOf : ℕ → Ask
+    abbrev pub askOf : ℕ → Ask
     askOf r = record { rule = rule; color = getD palette r 0; v = cellAt board (length palette) x y + r }
 
-    color-is : (r : ℕ) → both (puzzle ws) board (askOf r) x y ≡ ofColor (puzzle ws) rule x y r
+    pub color-is : (r : ℕ) → both (puzzle ws) board (askOf r) x y ≡ ofColor (puzzle ws) rule x y r
     unfolding ofColor
     color-is r = rw (cell-is (given-shows G) x y, G .palette-is, G .stands .width-is)
 

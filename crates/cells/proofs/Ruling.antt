@@ -18,7 +18,7 @@ use Rattle.cells.specs.declared.rule.Rule.the-variants.{Color, Space}
 use Rattle.cells.specs.Cells.{ruled}
 
 -- an element for each that was found
-map-each : {A : Type 0} (f : ℕ → A) (us : List ℕ) → map f us ≡ each (length us) (λ k. f (getD us k 0) ∷ [])
+pub map-each : {A : Type 0} (f : ℕ → A) (us : List ℕ) → map f us ≡ each (length us) (λ k. f (getD us k 0) ∷ [])
 unfolding tab
 map-each f us =
     ext-getD (f 0) (map f us) (tab (length us) (λ k. f (getD us k 0))) (length-map us f ∙ sym (length-tab (length us) _))
@@ -58,7 +58,7 @@ module _ (us : List ℕ) where
 
     -- ---- 8
 
-    space-each : ruled Space v us ≡ each (length us) (λ k. (negative (getD us k 0) ∷ positive v ∷ []) ∷ [])
+    pub space-each : ruled Space v us ≡ each (length us) (λ k. (negative (getD us k 0) ∷ positive v ∷ []) ∷ [])
     unfolding ruled
     space-each = map-each (λ u. negative u ∷ positive v ∷ []) us
 

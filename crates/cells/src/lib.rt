@@ -1,5 +1,5 @@
 // Families 7 and 8: the colours of cells and the positions that cover them. The definitions of 9 and 10 stand here too.
-mod covering;
+pub mod covering;
 pub mod rule;
 pub mod section;
 mod support;

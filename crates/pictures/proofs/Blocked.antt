@@ -14,7 +14,7 @@ use Rattle.numbering.specs.Variables.{hues, hue, cellVariable}
 use Rattle.numbering.proofs.Bounds.{first-some}
 use Rattle.grids.specs.Grid.{row}
 use Rattle.grids.proofs.Cells.{cell-within, row-length, row-cell}
-use Rattle.pictures.specs.Truth.{Assignment}
+use Rattle.truth.specs.Truth.{Assignment}
 use Rattle.pictures.specs.Pictures.{Extends, firstCell, shown, blocking}
 use Rattle.pictures.proofs.EachFamily.{Said}
 use Rattle.pictures.proofs.ColorsOfK.{known-hue}

@@ -9,7 +9,7 @@ use Rattle.puzzles.specs.Good.{Good}
 use Rattle.numbering.specs.Variables.{lineAt, variable, hues, cellVariable, variables}
 use Rattle.numbering.specs.Names.{Name, position, cell, IsName, number}
 use Rattle.numbering.proofs.OneToOne.{number-named}
-use Rattle.pictures.specs.Truth.{Assignment}
+use Rattle.truth.specs.Truth.{Assignment}
 use Rattle.pictures.specs.Pictures.{Extends, shown}
 use Rattle.pictures.proofs.EachFamily.{Said}
 use Rattle.pictures.proofs.LineReads.{said-once}

@@ -26,7 +26,7 @@ use Rattle.cells.specs.Cells.{covering, ofColor, byColumn, ofCells, pointOnce, 
 use Rattle.cells.specs.declared.rule.Rule as D
 use Rattle.cells.specs.declared.rule.Rule.the-variants.{Color, Space}
 use Rattle.counts.specs.Families.{families, joined, clauses}
-use Rattle.pictures.specs.Truth.{Assignment, Satisfies}
+use Rattle.truth.specs.Truth.{Assignment, Satisfies}
 use Rattle.pictures.specs.Meaning.{SomePosition, OnePosition, NoConflict, Covers, IsCovered, IsColored, EachColumn, EachRow, EachCell, OneColor, MaskSays, Units, Meanings}
 use Rattle.pictures.proofs.TrueClauses.{Holds, none-means, one-means, append-means, cond-means, when-means, each-means, tab-means, pairs-means, product-means, some-when-means, some-each-means, yes-means, no-means, if-means, if-last-means, not-both-means, least-means, most-means}
 

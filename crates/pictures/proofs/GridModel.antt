@@ -16,7 +16,8 @@ use Rattle.numbering.specs.Variables.{lineAt, hue, variables}
 use Rattle.numbering.specs.Names.{Name, position, cell, IsName, number}
 use Rattle.numbering.proofs.OneToOne.{number-within, number-once, number-named}
 use Rattle.grids.specs.Grid.{row, column}
-use Rattle.pictures.specs.Pictures.{Extends, Model, value}
+use Rattle.truth.specs.Truth.{value}
+use Rattle.pictures.specs.Pictures.{Extends, Model}
 use Rattle.pictures.proofs.Choices.{choice}
 use Rattle.pictures.proofs.LineArranged.{Stand}
 use Rattle.pictures.proofs.LineReads.{offsets}

@@ -14,7 +14,7 @@ use Rattle.lines.specs.Arrangement.{Gap, Proper, Arranged, clash, covers, rende
 use Rattle.lines.proofs.Packing.{packed-length}
 use Rattle.lines.proofs.Rendering.{cell-covered, covered-cell}
 use Rattle.numbering.specs.Variables.{Line, many, placedAt, variable}
-use Rattle.pictures.specs.Truth.{Assignment}
+use Rattle.truth.specs.Truth.{Assignment}
 use Rattle.pictures.specs.Meaning.{NotBoth, SomePosition, OnePosition, IsCovered, IsColored}
 use Rattle.pictures.proofs.Choices.{choice}
 

@@ -20,7 +20,7 @@ use Rattle.puzzles.specs.Good.{Good}
 use Rattle.puzzles.proofs.ColorSets.{good-known}
 use Rattle.boards.specs.Table.{firstAt}
 use Rattle.numbering.specs.Variables.{lineAt, many, variable, hues, hue}
-use Rattle.pictures.specs.Truth.{Assignment}
+use Rattle.truth.specs.Truth.{Assignment}
 use Rattle.pictures.specs.Meaning.{SomePosition, OnePosition, NoConflict, IsCovered, IsColored}
 use Rattle.pictures.specs.Pictures.{IsColor}
 use Rattle.pictures.proofs.ColorsOfK.{hue-known, same-color}

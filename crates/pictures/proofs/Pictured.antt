@@ -13,8 +13,8 @@ use Rattle.puzzles.proofs.Lines.{clue-column, length-column, clue-row, length-r
 use Rattle.numbering.specs.Variables.{hue, cellVariable}
 use Rattle.grids.specs.Grid.{row, column}
 use Rattle.grids.proofs.Cells.{cell-within, row-length, row-cell, column-length, column-cell}
-use Rattle.pictures.specs.Truth.{Assignment}
-use Rattle.pictures.specs.Pictures.{IsColor, Grid, Picture, Extends, obeys, value}
+use Rattle.truth.specs.Truth.{Assignment, value}
+use Rattle.pictures.specs.Pictures.{IsColor, Grid, Picture, Extends, obeys}
 use Rattle.pictures.proofs.EachFamily.{Said}
 use Rattle.pictures.proofs.ColorsOfK.{hue-once}
 use Rattle.pictures.proofs.LineReads.{LineSaid, LineCells, said-reads, reads-said}

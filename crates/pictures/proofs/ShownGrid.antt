@@ -18,7 +18,7 @@ use Rattle.puzzles.specs.Puzzle.{Puzzle, width, height}
 use Rattle.puzzles.specs.Checks.{colors}
 use Rattle.numbering.specs.Variables.{palette, hues, hue, cellFirst, cellVariable}
 use Rattle.grids.proofs.Cells.{cell-within}
-use Rattle.pictures.specs.Truth.{Assignment}
+use Rattle.truth.specs.Truth.{Assignment}
 use Rattle.pictures.specs.Meaning.{OneColor}
 use Rattle.pictures.specs.Pictures.{IsColor, Grid, Extends, colorOf, firstCell, shown}
 use Rattle.pictures.proofs.ColorsOfK.{hue-known, hue-once, same-color}

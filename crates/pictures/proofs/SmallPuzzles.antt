@@ -22,7 +22,7 @@ use Rattle.cells.specs.Cells as Cells
 use Rattle.cells.specs.Cells.{covering, ofColor, byColumn, precomputed, precomputedCells}
 use Rattle.counts.specs.Families.{families, joined}
 use Rattle.grids.specs.Grid.{row, column, sizeChecks, gridChecks, rowClues, columnClues, gridPuzzle, gridWords}
-use Rattle.pictures.specs.Truth.{literalTrue, clauseTrue, allTrue}
+use Rattle.truth.specs.Truth.{literalTrue, clauseTrue, allTrue}
 use Rattle.pictures.specs.Pictures.{Grid, permits, obeys, Picture, colorOf, shown, blocking}
 use Rattle.pictures.specs.Examples.{p8, p10, p11, p12, two, Read, Computed, SmallPictures}
 use Rattle.pictures.proofs.ReadGrids.{grids-read}

@@ -16,8 +16,8 @@ use Rattle.puzzles.specs.Good.{Good}
 use Rattle.puzzles.proofs.Accepting.{accepted-is}
 use Rattle.numbering.specs.Variables.{variables}
 use Rattle.counts.specs.Families.{clauses}
-use Rattle.pictures.specs.Truth.{Assignment, Satisfies}
-use Rattle.pictures.specs.Pictures.{Grid, Picture, Solves, Extends, Model, value, shown, blocking, member, PictureIs, Unique, Blocking, OneToOne, Condition3}
+use Rattle.truth.specs.Truth.{Assignment, value, Satisfies}
+use Rattle.pictures.specs.Pictures.{Grid, Picture, Solves, Extends, Model, shown, blocking, member, PictureIs, Unique, Blocking, OneToOne, Condition3}
 use Rattle.pictures.proofs.TrueClauses.{Holds, append-means, map-means}
 use Rattle.pictures.proofs.EachFamily.{Said, solved-said}
 use Rattle.pictures.proofs.GridModel.{model, is-model, model-extends}

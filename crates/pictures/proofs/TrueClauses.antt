@@ -11,7 +11,7 @@ use Rattle.lists.specs.Each.{each, tab, pairs, product, when}
 use Rattle.lists.proofs.Tests.{both, not-true}
 use Rattle.literals.specs.Literals.{positive, negative}
 use Rattle.sections.specs.Sections.{Clause, notBoth, atLeastOne, atMostOne}
-use Rattle.pictures.specs.Truth.{Assignment, literalTrue, clauseTrue, allTrue, Satisfies}
+use Rattle.truth.specs.Truth.{Assignment, literalTrue, clauseTrue, allTrue, Satisfies}
 use Rattle.pictures.specs.Meaning.{NotBoth}
 
 -- the clause is true

@@ -10,7 +10,8 @@ use Rattle.puzzles.specs.Checks.{puzzle, puzzleChecks}
 use Rattle.numbering.specs.Variables.{variables}
 use Rattle.counts.specs.Families.{clauses, buffer}
 use Rattle.grids.specs.Grid.{gridChecks, gridWords}
-use Rattle.pictures.specs.Pictures.{Grid, Picture, obeys, Solves, shown, blocking, value}
+use Rattle.truth.specs.Truth.{value}
+use Rattle.pictures.specs.Pictures.{Grid, Picture, obeys, Solves, shown, blocking}
 
 -- P8: one cell, its column and its row (1,1), mask 3
 unfoldable pub p8 : List ℕ

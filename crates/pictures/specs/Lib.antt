@@ -1,4 +1,3 @@
-pub mod Truth
 pub mod Meaning
 pub mod Pictures
 pub mod Examples

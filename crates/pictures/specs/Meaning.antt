@@ -15,7 +15,7 @@ use Rattle.bits.specs.Bits.{bit}
 use Rattle.numbering.specs.Variables.{Line, lineAt, many, placedAt, variable, hues, hue, cellVariable}
 use Rattle.cells.specs.Cells.{maskAt}
 use Rattle.counts.specs.Families.{families}
-use Rattle.pictures.specs.Truth.{Assignment, Satisfies}
+use Rattle.truth.specs.Truth.{Assignment, Satisfies}
 
 abbrev pub NotBoth : Assignment → ℕ → ℕ → Type 0
 NotBoth β u v = β u ≡ true → β v ≡ true → ⊥

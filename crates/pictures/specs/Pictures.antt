@@ -3,7 +3,7 @@ use mathlib.Core.Path.{_≡_}
 use mathlib.Core.Logic.{_↔_, _⊎_}
 use mathlib.Core.Bool.{Bool, true, false, _||_, cond}
 use mathlib.Core.List.{List, [], _∷_, _++_, map}
-use Prim.Native.Nat.{ℕ, suc, _+_, _-_, _*_, _≤_, _<_}
+use Prim.Native.Nat.{ℕ, suc, _+_, _*_, _≤_, _<_}
 use lib.Dec.{eqb}
 use lib.ListN.{length, getD}
 use Rattle.lists.specs.Each.{each, tab, when}
@@ -19,7 +19,7 @@ use Rattle.boards.specs.Table.{firstAt}
 use Rattle.numbering.specs.Variables.{palette, hues, hue, cellVariable, variables}
 use Rattle.counts.specs.Families.{clauses}
 use Rattle.grids.specs.Grid.{row, column, gridChecks, gridWords}
-use Rattle.pictures.specs.Truth.{Assignment, Satisfies}
+use Rattle.truth.specs.Truth.{Assignment, value, Satisfies}
 
 -- ---- pictures
 
@@ -79,10 +79,6 @@ blocking z β = each (width z * height z * hues z) (λ k. when (β (firstCell z 
 pub record Model (z : Puzzle) (model : List ℕ) : Type 0 where
   pub size : length model ≡ variables z
   pub bytes : (i : ℕ) → i < length model → getD model i 0 ≤ 1
-
--- and what it assigns; variables count from 1
-abbrev pub value : List ℕ → Assignment
-value model v = eqb (getD model (v - 1) 0) 1
 
 -- ---- the theorem, of a puzzle
 

@@ -67,10 +67,10 @@ module _ (line clue : List ℕ) (S : Sound (lineOf line clue)) where
   -- ---- its first variable and its positions, as they are read
 
   module _ {first p : ℕ} (fe : first ≡ getD line 1 0) (pe : p ≡ getD line 2 0) where
-    first-is : first ≡ L .first
+    pub first-is : first ≡ L .first
     first-is = fe ∙ of-first line clue
 
-    positions-is : p ≡ L .positions
+    pub positions-is : p ≡ L .positions
     positions-is = pe ∙ of-positions line clue
 
     -- the variables of a block
@@ -80,7 +80,7 @@ module _ (line clue : List ℕ) (S : Sound (lineOf line clue)) where
         rw (first-is, positions-is) (sound-least S b l, omega (arith, sound-most S b l))
 
     module _ (g : ℕ → ℕ → List Clause) where
-      blocks-are : each (many L) (λ b. g (firstOf L b) (L .positions)) ≡ each (length clue / 2) (λ b. g (first + b * p) p)
+      pub blocks-are : each (many L) (λ b. g (firstOf L b) (L .positions)) ≡ each (length clue / 2) (λ b. g (first + b * p) p)
       blocks-are = rw (of-many line clue, first-is, positions-is)
 
       blocks-first : (out : List ℤ) (to : ℕ) → to + length (clausesWords (each (many L) (λ b. g (firstOf L b) (L .positions)))) ≤ length out
@@ -112,7 +112,7 @@ module _ (line clue : List ℕ) (S : Sound (lineOf line clue)) where
     once-done E h = blocks-done atMostOne E h
 
     module _ (a : ℕ) where
-      later-are : laterRows L a ≡ each (length clue / 2 - (a + 1)) (λ k. rowsOf L first p a (a + 1 + k))
+      pub later-are : laterRows L a ≡ each (length clue / 2 - (a + 1)) (λ k. rowsOf L first p a (a + 1 + k))
       unfolding laterRows
       later-are = rw (of-many line clue, first-is, positions-is, add-one a)
 
@@ -126,7 +126,7 @@ module _ (line clue : List ℕ) (S : Sound (lineOf line clue)) where
 
   -- ---- each block with the later ones
 
-  overlaps-are : nonOverlap L ≡ each (length clue / 2) (laterRows L)
+  pub overlaps-are : nonOverlap L ≡ each (length clue / 2) (laterRows L)
   overlaps-are = rw (← of-many line clue) (non-overlap-later S)
 
   pub overlaps-first : (out : List ℤ) (to : ℕ) → to + length (clausesWords (nonOverlap L)) ≤ length out → Emitting (length clue / 2) (λ a. clausesWords (laterRows L a)) out to out to 0

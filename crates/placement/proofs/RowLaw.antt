@@ -35,7 +35,7 @@ row-is p d i x y t h l e =
 
 module _ (va vb d p : ℕ) where
   -- the first d are empty
-  rows-late : rowsFrom va vb d p ≡ each (p - d) (λ k. row (va + (d + k)) vb (d + k + 1 - d))
+  pub rows-late : rowsFrom va vb d p ≡ each (p - d) (λ k. row (va + (d + k)) vb (d + k + 1 - d))
   rows-late = each-late d p (λ i. row (va + i) vb (i + 1 - d)) (λ k h. row-none (va + k) vb (k + 1 - d) (omega arith))
 
   pub rows-first : (out : List ℤ) (to : ℕ) → to + length (clausesWords (rowsFrom va vb d p)) ≤ length out → EmittingFrom d p (λ i. clausesWords (row (va + i) vb (i + 1 - d))) out to out to d

@@ -2,12 +2,18 @@
 use mathlib.Core.Path.{_≡_}
 use mathlib.Core.Bool.{Bool, true, false, not, _&&_, _||_}
 use mathlib.Core.List.{List, [], _∷_}
-use Prim.Native.Nat.{ℕ, suc}
+use Prim.Native.Nat.{ℕ, suc, _-_}
+use lib.Dec.{eqb}
 use lib.IntN.{ℤ, pos, negsuc}
+use lib.ListN.{getD}
 use Rattle.sections.specs.Sections.{Clause}
 
 abbrev pub Assignment : Type 0
 Assignment = ℕ → Bool
+
+-- what a model assigns, one byte per variable; variables count from 1
+abbrev pub value : List ℕ → Assignment
+value model v = eqb (getD model (v - 1) 0) 1
 
 -- v is true where the variable is, -v where it is not
 unfoldable pub literalTrue : Assignment → ℤ → Bool

@@ -1,0 +1,1 @@
+// The implications of probes: what a probed colour of a cell is found to imply, as clauses.
