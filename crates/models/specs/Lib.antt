@@ -1,0 +1,3 @@
+pub mod Models
+pub mod Accepted
+pub mod Shown
