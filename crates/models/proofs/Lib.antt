@@ -1,3 +1,4 @@
 pub mod Counting
 pub mod Showing
 pub mod Negating
+pub mod Acceptance

@@ -1,2 +1,3 @@
 pub mod Testing
 pub mod RowTests
+pub mod AllTested
