@@ -6,13 +6,15 @@ short and plain, not at speed.
 
     python3 tests/model.py < crates/vectors/stdin            prints what the program must print: this made crates/vectors/stdout
     python3 tests/model.py --random SEED N                   prints N random cases; how many of each answer there are goes to standard error
+    python3 tests/model.py --models                          prints cases of models of small puzzles: those at the end of crates/vectors/stdin
 
 To hold the program against it on cases that nobody chose:
 
     python3 tests/model.py --random 1 1000 > cases
     target/bin/vectors < cases > got; python3 tests/model.py < cases | cmp - got
 
-A case is a line `ENTRY ROOM NUMBERS`: the buffer that is lent has ROOM words (bytes, for transpose), all of them 7. `N*M` stands for M times the
+A case is a line `ENTRY ROOM NUMBERS`: the buffer that is lent has ROOM words (bytes, for transpose and check_model), all of them 7. `check_model`, `blocking`
+and `probes` take the number of the puzzle's words, these words, then the model's bytes or the probe words. `N*M` stands for M times the
 number N, in a case and in an answer; an answer uses it from four times on. Lines that begin with # and empty lines are printed and no more. The answer
 to a case is ` NUMBER PLACE: BUFFER`, the whole buffer. Two entries answer otherwise. `from_two_powers` has no number and no place: its mask stands
 for the number. `puzzle` has no buffer (its ROOM counts for nothing): after an acceptance, with place 0, come width, height, the word of the
@@ -22,7 +24,7 @@ positions p, its least space and the start of each of its blocks.
 import random
 import sys
 from collections import namedtuple
-from itertools import combinations
+from itertools import combinations, product
 
 SEVEN = 7
 
@@ -376,6 +378,79 @@ def counts(words):
     return totals(z)
 
 
+# ---- models
+
+def true_colors(z, model, i):
+    return [color for color in z.K if model[z.variable(i % z.width, i // z.width, color) - 1] == 1]
+
+
+def checked(words, model):
+    """The puzzle, after the refusals of a model."""
+    z = Puzzle(words)
+    variables = totals(z)[0]
+    if len(model) != variables:
+        raise Refused(13, variables)
+    for i, byte in enumerate(model):
+        if byte > 1:
+            raise Refused(14, i)
+    all_clauses = [clause for section in sections(z) for clause in section]
+    for i, clause in enumerate(all_clauses):
+        if not any(model[abs(literal) - 1] == (literal > 0) for literal in clause):
+            raise Refused(15, i)
+    for i in range(z.width * z.height):
+        if len(true_colors(z, model, i)) > 1:
+            raise Refused(16, i)
+    return z
+
+
+def check_model(words, model):
+    z = checked(words, model)
+    return [(true_colors(z, model, i) + [0])[0] for i in range(z.width * z.height)]
+
+
+def blocking(words, model):
+    z = checked(words, model)
+    true_cells = [v for v in range(z.first_cell, len(model) + 1) if model[v - 1] == 1]
+    return [len(true_cells)] + [-v for v in true_cells]
+
+
+# ---- probes
+
+def claim(z, reader):
+    """The x, y and colour of a probe or an impact."""
+    x, place = reader.next()
+    if x >= z.width:
+        raise Refused(17, place)
+    y, place = reader.next()
+    if y >= z.height:
+        raise Refused(17, place)
+    color, place = reader.next()
+    if color > 31:
+        raise Refused(18, place)
+    return x, y, color
+
+
+def probes(words, probe_words):
+    z = Puzzle(words)
+    if len(probe_words) > 1048576:
+        raise Refused(20, len(probe_words))
+    reader, out = Words(probe_words), []
+    for _ in range(reader.next()[0]):
+        x, y, color = claim(z, reader)
+        if color not in [0] + z.K:
+            raise Refused(19, reader.at - 1)
+        premise = [-z.variable(x, y, color)] if color else [z.variable(x, y, c) for c in z.K]
+        for _ in range(reader.next()[0]):
+            x, y, color = claim(z, reader)
+            if color == 0:
+                out += [premise + [-z.variable(x, y, c)] for c in z.K]
+            elif color in z.K:
+                out.append(premise + [z.variable(x, y, color)])
+    if reader.at < len(probe_words):
+        raise Refused(11, reader.at)
+    return section_words([out])
+
+
 # ---- grids
 
 def check_sizes(width, height, grid):
@@ -443,6 +518,9 @@ def answer(entry, room, args):
             return 0, 0, puzzle(args)
         except Refused as why:
             return why.number, why.place, []
+    if entry in ("check_model", "blocking", "probes"):
+        call = {"check_model": check_model, "blocking": blocking, "probes": probes}[entry]
+        return lent(room, lambda: call(args[1:1 + args[0]], args[1 + args[0]:]))
     calls = {
         "two_powers": lambda: two_powers(args[0]),
         "read_line": lambda: read_line(args),
@@ -641,9 +719,86 @@ def random_grid_case(r, entry):
     return entry, random_room(r, entry, args), args
 
 
+def model_of(z, cells):
+    """The model whose picture this is."""
+    model = [0] * totals(z)[0]
+    for line, own in zip(z.lines, columns_of(z.width, cells) + rows_of(z.width, cells)):
+        starts_there = [i for i, color in enumerate(own) if color and (i == 0 or own[i - 1] != color)]
+        for block, start in zip(line.blocks, starts_there):
+            for position in block.positions:
+                model[position.variable - 1] = int(position.start == start)
+    for i, color in enumerate(cells):
+        if color:
+            model[z.variable(i % z.width, i // z.width, color) - 1] = 1
+    return model
+
+
+def random_model(r, words, cells):
+    """That of the picture, most often with a byte or two changed; or bytes at random; or of another length."""
+    try:
+        z = Puzzle(words)
+    except Refused:
+        return [r.randrange(2) for _ in range(r.randrange(20))]
+    kind = r.random()
+    if kind < 0.1:
+        return [r.choice([0, 0, 0, 1]) for _ in range(totals(z)[0])]
+    model = model_of(z, cells)
+    if kind < 0.6:
+        for _ in range(r.choice([1, 1, 2, 3])):
+            i = r.randrange(len(model))
+            model[i] = r.choice([1 - model[i], 1 - model[i], 1 - model[i], r.randrange(256)])
+    if kind > 0.95:
+        model = r.choice([model[1:], model + [0], []])
+    return model
+
+
+def random_model_case(r, entry):
+    """The puzzle of a picture, whose masks permit its colours most often."""
+    width, height, cells = random_picture(r, (7, 7))
+    columns = [runs(line) for line in columns_of(width, cells)]
+    rows = [runs(line) for line in rows_of(width, cells)]
+    K = sorted(color_set(rows))
+    masks = [r.choice([2 ** cell, 2 ** cell | 2 ** r.choice(K), 1 + sum(2 ** color for color in K)]) for cell in cells]
+    if r.random() < 0.1:
+        masks[r.randrange(len(masks))] = random_mask(r, K)
+    words = puzzle_words(columns, rows, masks)
+    if r.random() < 0.1:
+        words = damaged(r, words)
+    args = [len(words)] + words + random_model(r, words, cells)
+    return entry, random_room(r, entry, args), args
+
+
+def random_probe_case(r):
+    words = puzzle_words(*random_puzzle(r, r.choice([(4, 4), (64, 3), (3, 64)])))
+    if r.random() < 0.1:
+        words = damaged(r, words)
+    try:
+        z = Puzzle(words)
+        sizes, colors = (z.width, z.height), [0] + z.K
+    except Refused:
+        sizes, colors = (3, 3), [0, 1]
+
+    def some_claim(colors):
+        return [r.randrange(sizes[0]), r.randrange(sizes[1]), r.choice(colors)]
+    made = [r.randrange(5)]
+    for _ in range(made[0]):
+        impacts = [some_claim(colors + [r.randrange(32)]) for _ in range(r.randrange(4))]
+        made += some_claim(colors) + [len(impacts)] + [n for impact in impacts for n in impact]
+    if r.random() < 0.4:
+        made = damaged(r, made)
+    args = [len(words)] + words + made
+    return "probes", random_room(r, "probes", args), args
+
+
 def random_case(r):
     kind = r.random()
-    if kind < 0.35:
+    if kind < 0.08:
+        return random_model_case(r, "check_model")
+    if kind < 0.12:
+        return random_model_case(r, "blocking")
+    if kind < 0.2:
+        return random_probe_case(r)
+    if kind < 0.4:
         return "puzzle", 0, random_words(r)
     if kind < 0.6:
         return random_list_case(r, "clauses")
@@ -667,8 +822,52 @@ def random_cases(seed, count):
         print(f"{entry} {number}: {n}", file=sys.stderr)
 
 
+# ---- the models of small puzzles
+
+def readable(z):
+    """All grids of blank and K whose lines read as their clues, by trying each."""
+    for cells in product([0] + z.K, repeat=z.width * z.height):
+        if all(runs(own) == line.clue for own, line in zip(columns_of(z.width, cells) + rows_of(z.width, cells), z.lines)):
+            yield list(cells)
+
+
+def obeys(mask, color):
+    return mask >> color & 1 == 1 or (color == 0 and not is_solved(mask))
+
+
+def small_puzzles():
+    """Puzzles of several pictures, then with masks that leave fewer."""
+    one = [[(1, 1)]]
+    yield one * 2, one * 2, [3] * 4
+    yield one * 2, one * 2, [3, 3, 2, 3]
+    yield one * 2, one * 2, [3, 1, 3, 3]
+    yield one * 2, one * 2, [3, 3, 3, 1 << 5 | 1]
+    yield one * 3, one * 3, [3] * 9
+    yield one + [[]] + [[(2, 1)]], [[(1, 1), (1, 1)]] + one, [3] * 6
+    two = [[(1, 2)], [(1, 2)], [(1, 5)]]
+    yield two, two, [37] * 9
+    yield two, two, [37, 37, 5, 36, 1, 37, 37, 33, 32]
+
+
+def model_cases():
+    """Of each grid that reads as the clues its model and its blocking clause; and where it obeys the masks too, its model with each byte changed."""
+    for parts in small_puzzles():
+        words = puzzle_words(*parts)
+        z = Puzzle(words)
+        for cells in readable(z):
+            model = model_of(z, cells)
+            head = f"{len(words)}{shown(words)}"
+            print(f"check_model {len(cells)} {head}{shown(model)}")
+            print(f"blocking 12 {head}{shown(model)}")
+            for i in range(len(model)) if all(map(obeys, z.masks, cells)) else []:
+                changed = model[:i] + [1 - model[i]] + model[i + 1:]
+                print(f"check_model {len(cells)} {head}{shown(changed)}")
+
+
 def main():
-    if len(sys.argv) == 4 and sys.argv[1] == "--random":
+    if len(sys.argv) == 2 and sys.argv[1] == "--models":
+        model_cases()
+    elif len(sys.argv) == 4 and sys.argv[1] == "--random":
         random_cases(int(sys.argv[2]), int(sys.argv[3]))
     elif len(sys.argv) == 1:
         answer_all(sys.stdin.read().splitlines())
