@@ -1,21 +1,17 @@
 -- What the writers of sections ask, of an accepted puzzle and its counts.
-use mathlib.Core.Path.{_≡_, sym, ap, _∙_}
+use mathlib.Core.Path.{_≡_}
 use mathlib.Core.List.{List, [], _++_}
 use Prim.Native.Nat.{ℕ, _+_, _≤_, _<_}
 use native.Mathlib.Omega.{arith}
-use native.Mathlib.Nat.{zero-add}
-use lib.ListN.{length, take, length-append}
+use lib.ListN.{length, length-append}
 use lib.IntN.{ℤ}
 use Rattle.lists.specs.Wrote.{Wrote}
-use Rattle.lists.proofs.Writing.{wrote-there}
 use Rattle.sections.specs.Sections.{sectionWords, sectionsWords}
 use Rattle.sections.proofs.ClauseLists.{section-length}
 use Rattle.puzzles.specs.Puzzle.{Puzzle, width, height, lines}
 use Rattle.puzzles.specs.Good.{Good}
 use Rattle.boards.specs.Reading.{Stands}
 use Rattle.boards.specs.declared.board.Board.{Board}
-use Rattle.numbering.specs.Variables.{palette}
-use Rattle.numbering.proofs.Palettes.{palette-most}
 use Rattle.placement.specs.Placement.{ofLines, ofColumns, ofRows}
 use Rattle.placement.specs.declared.rule.Rule.{Rule}
 use Rattle.counts.proofs.Totals.{rule-small, counts-small}
@@ -41,17 +37,6 @@ module _ (z : Puzzle) (G : Good z) {b : Board} (S : Stands b z) (rule : Rule) wh
 
   pub rows-wrote : {out out₁ : List ℤ} {at at₁ : ℕ} → Wrote (sectionWords (ofLines z rule (b .width) (b .height))) out at out₁ at₁ → Wrote (sectionWords (ofRows z rule)) out at out₁ at₁
   rows-wrote w = rw (S .width-is, S .height-is) at w
-
--- `&colors[..k]`, where the palette was written
-module _ (K : ℕ) {out out′ : List ℕ} {k : ℕ} (w : Wrote (palette K) out 0 out′ k) where
-  pub palette-taken : take k out′ ≡ palette K
-  palette-taken = rw (w .next-is ∙ zero-add (length (palette K))) (wrote-there (omega arith) w)
-
-  pub palette-count : k ≡ length (take k out′)
-  palette-count = w .next-is ∙ zero-add (length (palette K)) ∙ sym (ap length palette-taken)
-
-  pub palette-few : k ≤ 31
-  palette-few = omega (arith, w .next-is, palette-most K)
 
 -- the words of sections 7 to 10 are few
 pub cells-few : (z : Puzzle) → Good z → length (sectionsWords (cellSections z)) ≤ 10000000

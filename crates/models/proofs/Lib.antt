@@ -1,4 +1,5 @@
 pub mod Counting
 pub mod Showing
 pub mod Negating
+pub mod Ordering
 pub mod Acceptance

@@ -1,16 +1,17 @@
 -- The colours of a set in order.
-use mathlib.Core.Path.{_≡_}
+use mathlib.Core.Path.{_≡_, sym, ap, _∙_}
 use mathlib.Core.Bool.{true, false}
 use mathlib.Core.List.{List, [], _∷_}
 use Prim.Native.Nat.{ℕ, suc, _+_, _≤_, _<_}
 use native.Mathlib.Omega.{arith}
+use native.Mathlib.Nat.{zero-add}
 use native.Mathlib.Numerals.{add-one}
-use lib.ListN.{length, set}
+use lib.ListN.{length, set, take}
 use Rattle.lists.specs.Each.{when}
 use Rattle.lists.specs.Wrote.{Wrote}
 use Rattle.lists.proofs.Emitting.{Emitting, emit-first, emit-room, emit-next, emit-done}
 use Rattle.lists.proofs.Parts.{each-most}
-use Rattle.lists.proofs.Writing.{wrote-none, wrote-store}
+use Rattle.lists.proofs.Writing.{wrote-none, wrote-store, wrote-there}
 use Rattle.bits.specs.Bits.{bit}
 use Rattle.numbering.specs.Variables.{palette}
 
@@ -45,3 +46,14 @@ module _ (K : ℕ) {k : ℕ} {out₀ out : List ℕ} {at₀ at : ℕ} (E : Emitt
 pub palette-done : (K : ℕ) {k : ℕ} {out₀ out : List ℕ} {at : ℕ} → Emitting 31 (colorOf K) out₀ 0 out at k → 31 ≤ k → Wrote (palette K) out₀ 0 out at
 unfolding palette
 palette-done K E h = emit-done E h
+
+-- `&colors[..k]`, where the palette was written
+module _ (K : ℕ) {out out′ : List ℕ} {k : ℕ} (w : Wrote (palette K) out 0 out′ k) where
+  pub palette-taken : take k out′ ≡ palette K
+  palette-taken = rw (w .next-is ∙ zero-add (length (palette K))) (wrote-there (omega arith) w)
+
+  pub palette-count : k ≡ length (take k out′)
+  palette-count = w .next-is ∙ zero-add (length (palette K)) ∙ sym (ap length palette-taken)
+
+  pub palette-few : k ≤ 31
+  palette-few = omega (arith, w .next-is, palette-most K)

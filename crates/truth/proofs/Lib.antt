@@ -1,3 +1,4 @@
 pub mod Testing
 pub mod RowTests
 pub mod AllTested
+pub mod JoinedTests

@@ -5,7 +5,7 @@ use Rattle.puzzles.specs.Checks.{puzzle}
 use Rattle.numbering.specs.Variables as N
 use Rattle.clauses.specs.Groups.{lineSections, cellSections}
 use Rattle.clauses.proofs.Tails.{writing-first, writing-front, writing-room, writing-next, writing-whole, writing-kept, writing-place, writing-done, all-sections}
-use Rattle.clauses.proofs.Asked.{palette-taken, palette-count, palette-few}
+use Rattle.numbering.proofs.Palettes.{palette-taken, palette-count, palette-few}
 use borrow.Author.Needs.{needs}
 use Rattle.clauses.proofs.buffer.write_sections.Statement.{statement}
 use Rattle.clauses.proofs.buffer.write_sections.Tie as tie
