@@ -1,0 +1,3 @@
+pub mod SomePosition
+pub mod BlockTests
+pub mod LateTests
