@@ -18,21 +18,24 @@ use Rattle.placement.proofs.RowLaw.{rows-late}
 use Rattle.placed.specs.Known.{Known}
 use Rattle.placed.proofs.LateTests.{late-is}
 
--- the n variables from v on are some, and a model of m bytes has them
-pub record Has (m v n : ℕ) : Type 0 where
-  pub least : 0 < v
-  pub most : v + n ≤ largest + 1
-  pub bytes : v + n ≤ m + 1
+-- the p variables of block b are some, and a model of m bytes has them
+pub record Has (m first p b : ℕ) : Type 0 where
+  pub least : 0 < first
+  pub most : first + b * p + p ≤ largest + 1
+  pub bytes : first + b * p + p ≤ m + 1
 
 module _ (line clue : List ℕ) (S : Sound (lineOf line clue)) {first p : ℕ} (fe : first ≡ getD line 1 0) (pe : p ≡ getD line 2 0) where
   abbrev L : Line
   L = lineOf line clue
 
-  pub has-block : (m b : ℕ) → Known m L → b < length clue / 2 → Has m (first + b * p) p
+  pub has-block : (m b : ℕ) → Known m L → b < length clue / 2 → Has m first p b
   has-block m b K h =
-      let r = in-range line clue S fe pe b h in
       let l : b < many L = omega (arith, of-many line clue) in
-      record { least = r .0; most = r .1; bytes = rw (first-is line clue S fe pe, positions-is line clue S fe pe) (K b l) }
+      record {
+        least = rw (first-is line clue S fe pe) (S .least);
+        most = in-range line clue S fe pe b h .1;
+        bytes = rw (first-is line clue S fe pe, positions-is line clue S fe pe) (K b l);
+      }
 
   pub positions-are : blockPositions L ≡ tab (length clue / 2) (λ b. atLeastOne (first + b * p) p)
   unfolding blockPositions tab

@@ -1,12 +1,12 @@
 -- A model with a byte for each variable of a puzzle has one for each variable of its lines.
-use Prim.Native.Nat.{ℕ, _+_, _-_, _<_}
+use Prim.Native.Nat.{ℕ, _-_, _<_}
 use native.Mathlib.Omega.{arith}
 use lib.ListN.{length}
 use Rattle.lines.specs.Clue.{gap}
 use Rattle.lines.proofs.Packing.{packed-length}
 use Rattle.puzzles.specs.Puzzle.{Puzzle, lines, clueAt}
 use Rattle.boards.specs.Table.{positionsAt}
-use Rattle.numbering.specs.Variables.{lineAt, many, variables}
+use Rattle.numbering.specs.Variables.{lineAt, variables}
 use Rattle.numbering.specs.Tables.{Sound}
 use Rattle.numbering.specs.Names.{position}
 use Rattle.numbering.proofs.SoundLines.{sound-some}

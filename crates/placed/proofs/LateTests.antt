@@ -1,5 +1,5 @@
--- A loop that starts at a later turn.
-use mathlib.Core.Path.{_≡_, refl, sym, _∙_}
+-- What a loop that starts at a later turn has to do.
+use mathlib.Core.Path.{_≡_, sym, _∙_}
 use mathlib.Core.List.{List}
 use Prim.Native.Nat.{ℕ, zero, suc, _+_, _-_}
 use native.Mathlib.Omega.{arith}

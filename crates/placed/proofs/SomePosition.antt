@@ -6,8 +6,7 @@ use Prim.Native.Nat.{ℕ, _+_, _*_, _≤_, _<_}
 use native.Mathlib.Omega.{arith}
 use native.Mathlib.Nat.{add-zero}
 use lib.ListN.{length}
-use lib.IntN.{ℤ}
-use Rattle.lists.specs.Each.{each, tab}
+use Rattle.lists.specs.Each.{tab}
 use Rattle.lists.proofs.Eaches.{rest, rest-first, rest-next, rest-done, length-tab}
 use Rattle.literals.specs.Literals.{positive}
 use Rattle.sections.specs.Sections.{Clause, atLeastOne}
@@ -28,15 +27,15 @@ module _ (β : Assignment) (v n : ℕ) where
   some-first = ap (clauseTrue β) (rest-first n _)
 
   module _ (i : ℕ) (T : SomeLeft β v n i) where
-    pub some-true : i < n → β (v + i) ≡ true → clauseTrue β (atLeastOne v n) ≡ true
+    some-true : i < n → β (v + i) ≡ true → clauseTrue β (atLeastOne v n) ≡ true
     unfolding clauseTrue literalTrue
     some-true l e = T ∙ rw (rest-next i n (λ k. positive (v + k) ∷ []) l, e)
 
-    pub some-next : i < n → β (v + i) ≡ false → SomeLeft β v n (i + 1)
+    some-next : i < n → β (v + i) ≡ false → SomeLeft β v n (i + 1)
     unfolding clauseTrue literalTrue
     some-next l e = T ∙ rw (rest-next i n (λ k. positive (v + k) ∷ []) l, e)
 
-    pub some-false : n ≤ i → clauseTrue β (atLeastOne v n) ≡ false
+    some-false : n ≤ i → clauseTrue β (atLeastOne v n) ≡ false
     unfolding clauseTrue
     some-false h = T ∙ rw (rest-done i n (λ k. positive (v + k) ∷ []) h)
 

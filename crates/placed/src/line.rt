@@ -2,9 +2,9 @@
 use crate::overlap::test_overlaps;
 use lists::wide;
 use placement::rule::Rule;
+use truth::Tested;
 use truth::on;
 use truth::test_at_most_one;
-use truth::Tested;
 ghost use mathlib.Core.Path.{_≡_};
 ghost use Prim.Native.Nat.{_≤_};
 ghost use lib.ListN.{length};

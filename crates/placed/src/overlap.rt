@@ -1,8 +1,8 @@
 // Families 5 and 6, of one line: whether a model has no two blocks in conflict.
 use lists::wide;
 use placement::overlap::distance;
-use truth::test_row;
 use truth::Tested;
+use truth::test_row;
 ghost use mathlib.Core.Path.{_≡_};
 ghost use Prim.Native.Nat.{_+_, _/_, _≤_, _<_};
 ghost use lib.ListN.{length};

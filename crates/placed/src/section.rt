@@ -16,14 +16,7 @@ ghost use Rattle.numbering.specs.Tables.{Ready};
 ghost use Rattle.placement.specs.Placement.{ruled, ofLines};
 
 // Line l, found through the table.
-fn test_line(
-    rule: Rule,
-    words: &[u32],
-    table: &[u32],
-    model: &[u8],
-    l: usize,
-    at: usize,
-) -> Tested
+fn test_line(rule: Rule, words: &[u32], table: &[u32], model: &[u8], l: usize, at: usize) -> Tested
     requires { ⌜ Ready (now words) (now table) × (length (now model) ≡ variables (puzzle (now words))) × (l < P.lines (puzzle (now words))) ⌝ }
     requires { ⌜ Countable at (ruled rule (lineAt (puzzle (now words)) l)) ⌝ }
     ensures { λ r. ⌜ said r ≡ tested (value (now (model .entry))) at (ruled rule (lineAt (puzzle (now (words .entry))) l)) ⌝ }

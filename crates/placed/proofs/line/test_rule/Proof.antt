@@ -2,28 +2,14 @@ use Rattle.placement.specs.Placement.{ruled}
 use borrow.Author.Needs.{needs}
 use Rattle.placed.proofs.line.test_rule.Statement.{statement}
 use Rattle.placed.proofs.line.test_rule.Tie as tie
-use Rattle.placed.proofs.line.test_rule.Reads as reads
-use Rattle.placed.proofs.line.test_rule.Lts as lts
-use Rattle.placed.proofs.line.test_once.Reads as test-once-reads
-use Rattle.placed.proofs.line.test_positions.Reads as test-positions-reads
-use Rattle.placed.proofs.overlap.test_overlaps.Reads as test-overlaps-reads
-
-enum-told : tie.Need-enum-told
-enum-told c = search needs
 
 test-positions-requires : tie.Need-test-positions-requires
 unfolding ruled
 test-positions-requires c κs = (c .before .before .before .before .before .pre .0, rw (c .enum-told .given .1) at (c .before .before .before .before .before .pre .1))
 
-enum-told-2 : tie.Need-enum-told-2
-enum-told-2 c = search needs
-
 test-once-requires : tie.Need-test-once-requires
 unfolding ruled
 test-once-requires c κs = (c .before .before .before .before .before .pre .0, rw (c .enum-told2 .given .1) at (c .before .before .before .before .before .pre .1))
-
-enum-told-3 : tie.Need-enum-told-3
-enum-told-3 c = search needs
 
 test-overlaps-requires : tie.Need-test-overlaps-requires
 unfolding ruled
@@ -45,11 +31,11 @@ pub test-rule-spec : {M : Type 1} → statement M
 test-rule-spec =
     tie.close
     (tie.spec
-    enum-told
+    (λ c. search needs)
     test-positions-requires
-    enum-told-2
+    (λ c. search needs)
     test-once-requires
-    enum-told-3
+    (λ c. search needs)
     test-overlaps-requires
     returns
     returns-2
