@@ -16,6 +16,7 @@ Inv-loop model va vb d p at to₀ i₀ to i = (d ≤ i) × Testing (value model)
 abbrev μ-loop : tie.MeasureT-loop
 μ-loop model va vb d p at to₀ i₀ to i = p - i
 
+-- the room for a row's places is told by its length alone, whatever its variables
 pub test-rows-spec : {M : Type 1} → statement M
 test-rows-spec =
     tie.close
