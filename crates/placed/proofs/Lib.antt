@@ -1,0 +1,4 @@
+pub mod SomePosition
+pub mod BlockTests
+pub mod LateTests
+pub mod KnownLines
