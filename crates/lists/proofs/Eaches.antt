@@ -21,7 +21,7 @@ module _ {A : Type 0} where
   each-same (suc n) f g h = rw (each-same n f g (λ k l. h k (omega arith)), h n (omega arith))
 
   -- what a loop that stands at i still has to do
-  pub rest : ℕ → ℕ → (ℕ → List A) → List A
+  unfoldable pub rest : ℕ → ℕ → (ℕ → List A) → List A
   rest i n f = each (n - i) (λ k. f (i + k))
 
   pub rest-first : (n : ℕ) (f : ℕ → List A) → each n f ≡ rest 0 n f

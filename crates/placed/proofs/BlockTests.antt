@@ -1,5 +1,5 @@
 -- The loops over the blocks of a line that test them, given its words in the table and the words of its clue.
-use mathlib.Core.Path.{_≡_, _∙_}
+use mathlib.Core.Path.{_≡_}
 use mathlib.Core.List.{List, [], _∷_}
 use Prim.Native.Nat.{ℕ, _+_, _-_, _*_, _/_, _≤_, _<_}
 use native.Mathlib.Omega.{arith}
@@ -16,7 +16,6 @@ use Rattle.placement.specs.PairRows.{rowsFrom, laterRows}
 use Rattle.placement.proofs.BlockLoops.{rowsOf, first-is, positions-is, in-range, blocks-are, later-are}
 use Rattle.placement.proofs.RowLaw.{rows-late}
 use Rattle.placed.specs.Known.{Known}
-use Rattle.placed.proofs.LateTests.{late-is}
 
 -- the p variables of block b are some, and a model of m bytes has them
 pub record Has (m first p b : ℕ) : Type 0 where
@@ -46,7 +45,9 @@ module _ (line clue : List ℕ) (S : Sound (lineOf line clue)) {first p : ℕ} (
   once-are = blocks-are line clue S fe pe atMostOne
 
   pub later-rest : (a : ℕ) → laterRows L a ≡ rest (a + 1) (length clue / 2) (rowsOf L first p a)
-  later-rest a = later-are line clue S fe pe a ∙ late-is (a + 1) (length clue / 2) (rowsOf L first p a)
+  unfolding rest
+  later-rest a = later-are line clue S fe pe a
 
 pub rows-rest : (va vb d p : ℕ) → rowsFrom va vb d p ≡ rest d p (λ i. row (va + i) vb (i + 1 - d))
-rows-rest va vb d p = rows-late va vb d p ∙ late-is d p (λ i. row (va + i) vb (i + 1 - d))
+unfolding rest
+rows-rest va vb d p = rows-late va vb d p

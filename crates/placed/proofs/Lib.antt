@@ -1,4 +1,3 @@
 pub mod SomePosition
 pub mod BlockTests
-pub mod LateTests
 pub mod KnownLines
