@@ -57,6 +57,22 @@ uint32_t haafgrim_clauses(const uint32_t *puzzle, size_t puzzle_len, int32_t *ou
  * Needs 13 words of 64 bits. Refuses: 1, 2, 3, 4, 5, 7, 8, 11, 6, 9, 10, 12. */
 uint32_t haafgrim_counts(const uint32_t *puzzle, size_t puzzle_len, uint64_t *out, size_t out_len, size_t *place);
 
+/* A model is one byte, 0 or 1, for each variable of the puzzle, from 1 on. Accepts it exactly when every clause of the ten sections is true, and then writes the
+ * picture that it shows: one colour byte for each cell, row by row, 0 for blank. Needs width times height bytes (4,096 are always enough).
+ * Refuses: those of haafgrim_clauses, then 13, 14, 15 (at the first false clause, counted from 0 over all sections), 16 (never given: 15 comes before), 12. */
+uint32_t haafgrim_check_model(const uint32_t *puzzle, size_t puzzle_len, const uint8_t *model, size_t model_len, uint8_t *out, size_t out_len, size_t *place);
+
+/* Checks the model likewise, and writes the clause that rules its picture out: how many literals it has, then each true variable of a cell negated, ascending.
+ * With the clauses of the puzzle and such clauses of some models, exactly the pictures that none of these models shows remain.
+ * Needs one word and one for each coloured cell (4,097 are always enough). Refuses as haafgrim_check_model does. */
+uint32_t haafgrim_blocking(const uint32_t *puzzle, size_t puzzle_len, const uint8_t *model, size_t model_len, int32_t *out, size_t out_len, size_t *place);
+
+/* Probe words are the number of probes, and for each its x, its y, its colour (0 for blank) and the number of its impacts, then the x, y and colour of each impact.
+ * Writes one section, the number of its clauses and then the clauses as haafgrim_clauses does, which a grid satisfies exactly when, wherever a probe's cell has the
+ * probe's colour, each of its impacts holds; an impact of a colour that is not in the rows is left out. Needs one word, and at most 1,023 for each impact.
+ * Refuses: those of haafgrim_clauses, then 20, 1, 17, 18, 19, 11, 12. */
+uint32_t haafgrim_probes(const uint32_t *puzzle, size_t puzzle_len, const uint32_t *probe, size_t probe_len, int32_t *out, size_t out_len, size_t *place);
+
 #ifdef __cplusplus
 }
 #endif

@@ -2,6 +2,7 @@ pub mod Choices
 pub mod TrueClauses
 pub mod EachFamily
 pub mod ColorsOfK
+pub mod NineFollows
 pub mod Masks
 pub mod LineArranged
 pub mod LineReads

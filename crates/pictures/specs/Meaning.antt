@@ -1,5 +1,5 @@
 -- What each of document 01's ten families says by itself, in the words of its table.
--- Condition 3 alone would not tell whether 9 is there: it follows from 5 and 7.
+-- Condition 3 alone would not tell whether 9 is there, since it follows from 5 and 7 (`NineFollows`).
 use mathlib.Core.Path.{_≡_}
 use mathlib.Core.Logic.{_↔_}
 use mathlib.Core.Bool.{Bool, true, false}
@@ -97,3 +97,7 @@ module _ (z : Puzzle) where
     pub eight : Satisfies β (section 8) ↔ EachCell (IsColored β)
     pub nine : Satisfies β (section 9) ↔ OneColor β
     pub ten : Satisfies β (section 10) ↔ Units β
+
+-- 9 follows from 5 and 7
+abbrev pub NineFollows : Type 0
+NineFollows = (z : Puzzle) (β : Assignment) → Satisfies β (section z 5) → Satisfies β (section z 7) → Satisfies β (section z 9)
