@@ -6,47 +6,52 @@ use Prim.Native.Nat.{ℕ, zero, suc, _+_, _-_, _≤_, _<_}
 use native.Mathlib.Omega.{arith}
 use native.Mathlib.Decide.{decLt}
 use lib.Dec.{eqb}
-use lib.ListN.{length, length-append, List·getD-append}
+use lib.ListN.{length, getD, length-append, List·getD-append}
 use lib.Seq.{getD-append-add}
 use Rattle.lists.specs.Each.{each, when}
 use Rattle.lists.proofs.Sums.{sum-below, length-each}
-use Rattle.literals.specs.Literals.{IsVariable, largest}
-use Rattle.lines.specs.Arrangement.{at}
-use Rattle.numbering.specs.Variables.{Line, many, firstOf}
+use Rattle.literals.specs.Literals.{IsVariable}
+use Rattle.lines.specs.Arrangement.{at, covers}
+use Rattle.numbering.specs.Variables.{Line, many, placedAt, firstOf, variable}
 use Rattle.numbering.specs.Tables.{Sound}
 use Rattle.numbering.proofs.SoundLines.{sound-sizes, sound-least, sound-most}
 use Rattle.cells.specs.Cells.{covering}
 use Rattle.cells.specs.Found.{coveringBlock, AreVariables}
-use Rattle.cells.proofs.BlockPositions.{reaching, block-most}
+use Rattle.cells.proofs.BlockPositions.{block-most}
 
--- ---- they are variables
+-- ---- what holds of each of them
 
-variables-append : (us vs : List ℕ) → AreVariables us → AreVariables vs → AreVariables (us ++ vs)
-variables-append us vs a b i h = elim (decLt i (length us)) [
-  | yes l ↦ rw (List·getD-append us vs 0 i l) (a i l)
-  | no l ↦
-      let k = i - length us in
-      let e : i ≡ length us + k = omega arith in
-      rw (e, getD-append-add us vs k 0) (b k (omega (arith, length-append us vs)))
-]
+abbrev pub Every : (ℕ → Type 0) → List ℕ → Type 0
+Every P us = (i : ℕ) → i < length us → P (getD us i 0)
 
-variables-each : (n : ℕ) (f : ℕ → List ℕ) → ((k : ℕ) → k < n → AreVariables (f k)) → AreVariables (each n f)
-unfolding each
-variables-each zero f h = λ i l. absurd (omega arith)
-variables-each (suc n) f h = variables-append (each n f) (f n) (variables-each n f (λ k l. h k (omega arith))) (h n (omega arith))
+module _ (P : ℕ → Type 0) where
+  every-append : (us vs : List ℕ) → Every P us → Every P vs → Every P (us ++ vs)
+  every-append us vs a b i h = elim (decLt i (length us)) [
+    | yes l ↦ rw (List·getD-append us vs 0 i l) (a i l)
+    | no l ↦
+        let k = i - length us in
+        let e : i ≡ length us + k = omega arith in
+        rw (e, getD-append-add us vs k 0) (b k (omega (arith, length-append us vs)))
+  ]
 
-variables-when : (b : Bool) (us : List ℕ) → AreVariables us → AreVariables (when b us)
-variables-when true us h = h
-variables-when false us h = λ i l. absurd (omega arith)
+  every-each : (n : ℕ) (f : ℕ → List ℕ) → ((k : ℕ) → k < n → Every P (f k)) → Every P (each n f)
+  unfolding each
+  every-each zero f h = λ i l. absurd (omega arith)
+  every-each (suc n) f h = every-append (each n f) (f n) (every-each n f (λ k l. h k (omega arith))) (h n (omega arith))
 
-variables-one : (v : ℕ) → IsVariable v → AreVariables (v ∷ [])
-variables-one v h zero l = h
-variables-one v h (suc i) l = absurd (omega arith)
+  every-when : (b : Bool) (us : List ℕ) → Every P us → Every P (when b us)
+  every-when true us h = h
+  every-when false us h = λ i l. absurd (omega arith)
 
-block-variables : (v p start size t : ℕ) → 0 < v → v + p ≤ largest + 1 → AreVariables (coveringBlock v p start size t)
-unfolding coveringBlock
-block-variables v p start size t a b =
-    variables-each p _ (λ i h. variables-when (reaching start size t i) _ (variables-one (v + i) (record { least = omega arith; most = omega arith })))
+  every-one : (v : ℕ) → P v → Every P (v ∷ [])
+  every-one v h zero l = h
+  every-one v h (suc i) l = absurd (omega arith)
+
+  pub covering-every : (L : Line) (c t : ℕ) → ((b i : ℕ) → b < many L → i < L .positions → P (variable L b i)) → Every P (covering L c t)
+  unfolding covering
+  covering-every L c t h =
+      every-each (many L) _ (λ b k. every-when (eqb (at (L .runs) b .color) c) _
+      (every-each (L .positions) _ (λ i l. every-when (covers (placedAt L b i) t) _ (every-one (variable L b i) (h b i k l)))))
 
 -- ---- block by block
 
@@ -70,5 +75,4 @@ module _ {L : Line} (S : Sound L) (c t : ℕ) where
       few b h = when-most (eqb (at (L .runs) b .color) c) _ _ (block-most (firstOf L b) (at (L .runs) b .start) (at (L .runs) b .size) t (L .positions))
 
   pub covering-variables : AreVariables (covering L c t)
-  covering-variables =
-      rw (covering-blocks L c t) (variables-each (many L) (ofBlock L c t) (λ b h. variables-when (eqb (at (L .runs) b .color) c) _ (block-variables (firstOf L b) (L .positions) (at (L .runs) b .start) (at (L .runs) b .size) t (sound-least S b h) (omega (arith, sound-most S b h)))))
+  covering-variables = covering-every IsVariable L c t (λ b i h l. record { least = omega (arith, sound-least S b h); most = omega (arith, sound-most S b h) })

@@ -22,10 +22,10 @@ ghost use Rattle.cells.specs.Asked.{asked};
 ghost use Rattle.cells.specs.Given.{Given, ofCell};
 
 // What is asked of a line: the rule, the colour, and the variable of the cell's colour.
-struct Ask {
-    rule: Rule,
-    color: u32,
-    v: usize,
+pub struct Ask {
+    pub rule: Rule,
+    pub color: u32,
+    pub v: usize,
 }
 
 // Of line l and its cell t.

@@ -74,7 +74,7 @@ module _ {ws : List ℕ} {board : Board} {palette : List ℕ} (M : Masked ws boa
   pub cells-within : board .cells < length ws
   cells-within = masks-within ws (M .sectioned) (M .stands .cells-is)
 
-  masks-are : take (length ws - (board .cells + 1)) (drop (board .cells + 1) ws) ≡ puzzle ws .masks
+  pub masks-are : take (length ws - (board .cells + 1)) (drop (board .cells + 1) ws) ≡ puzzle ws .masks
   masks-are = masks-part ws (M .sectioned) (M .stands .cells-is)
 
   pub rows-are : precomputedCells (puzzle ws) ≡ ofMasks palette (take (length ws - (board .cells + 1)) (drop (board .cells + 1) ws)) (board .first)

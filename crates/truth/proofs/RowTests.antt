@@ -40,7 +40,7 @@ module _ (β : Assignment) (p : ℕ) (c : Clause) where
 -- ---- a row
 
 module _ (β : Assignment) where
-  tab-true : (n p : ℕ) (f : ℕ → Clause) → ((k : ℕ) → k < n → clauseTrue β (f k) ≡ true) → accepted (p + n) ≡ tested β p (tab n f)
+  pub tab-true : (n p : ℕ) (f : ℕ → Clause) → ((k : ℕ) → k < n → clauseTrue β (f k) ≡ true) → accepted (p + n) ≡ tested β p (tab n f)
   unfolding tab each tested
   tab-true zero p f h = rw add-zero
   tab-true (suc n) p f h =

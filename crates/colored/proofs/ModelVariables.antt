@@ -1,0 +1,44 @@
+-- A model with a value for each variable has one for each position that covers a cell, and for each colour of a cell.
+use mathlib.Core.Path.{_≡_, sym, ap}
+use mathlib.Core.List.{List}
+use Prim.Native.Nat.{ℕ, _+_, _-_, _*_, _≤_, _<_}
+use native.Mathlib.Omega.{arith}
+use native.Mathlib.Nat.{mul-comm}
+use lib.ListN.{length, take, drop}
+use Rattle.lists.proofs.Parts.{part-within, place-within}
+use Rattle.lines.specs.Clue.{gap}
+use Rattle.lines.proofs.Packing.{packed-length}
+use Rattle.puzzles.specs.Puzzle.{Puzzle, lines, width, height, clueAt}
+use Rattle.puzzles.specs.Checks.{puzzle}
+use Rattle.boards.specs.declared.board.Board.{Board}
+use Rattle.numbering.specs.Variables.{Line, lineAt, many, hues, cellFirst, variables}
+use Rattle.numbering.specs.Names.{position}
+use Rattle.numbering.proofs.Bounds.{first-some}
+use Rattle.numbering.proofs.OneToOne.{number-within}
+use Rattle.cells.specs.Cells.{covering}
+use Rattle.cells.specs.Given.{Shows}
+use Rattle.cells.proofs.BoardCells.{cellAt, cell-is}
+use Rattle.cells.proofs.CoveringPositions.{covering-every}
+use Rattle.points.specs.Points.{Masked}
+use Rattle.points.proofs.PointCells.{masks-are}
+use Rattle.colored.specs.Models.{Of, AllOf}
+
+module _ (model : List ℕ) (z : Puzzle) (all : length model ≡ variables z) where
+  pub covering-within : (l c t : ℕ) → l < lines z → AllOf model (covering (lineAt z l) c t)
+  unfolding lineAt
+  covering-within l c t h = covering-every (Of model) (lineAt z l) c t (λ b i k m. rw all (number-within z (position l b i) (h, omega (arith, packed-length gap (clueAt z l)), m)))
+
+  module _ {board : Board} {k : ℕ} (S : Shows board k z) (x y : ℕ) (h : x < board .width) (l : y < board .height) where
+    pub cell-within : (0 < cellAt board k x y) × (cellAt board k x y + k ≤ length model + 1)
+    unfolding cellFirst variables
+    cell-within =
+        let c = y * width z + x in
+        let i : c < width z * height z = omega (arith, place-within (height z) (width z) y x (omega (arith, S .stands .height-is)) (omega (arith, S .stands .width-is)), mul-comm (height z) (width z)) in
+        rw (all, cell-is S x y, S .hues-are) (omega (arith, first-some z (lines z)), omega (arith, first-some z (lines z), part-within (width z * height z) (hues z) c i))
+
+pub masks-within : (model : List ℕ) {ws : List ℕ} {board : Board} {palette : List ℕ} → Masked ws board palette → length model ≡ variables (puzzle ws)
+    → (0 < board .first) × (board .first + length (take (length ws - (board .cells + 1)) (drop (board .cells + 1) ws)) * length palette ≤ length model + 1)
+unfolding variables
+masks-within model {ws} M all =
+    let z = puzzle ws in
+    rw (all, M .stands .first-is, masks-are M, M .good .area, M .palette-is) (first-some z (lines z), omega (arith, first-some z (lines z)))

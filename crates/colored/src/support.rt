@@ -1,0 +1,56 @@
+// Tests of a single clause, and of a cell variable and the positions that were found.
+use truth::on;
+use truth::Tested;
+ghost use mathlib.Core.Path.{_≡_};
+ghost use mathlib.Core.List.{[], _∷_, map};
+ghost use Prim.Native.Nat.{ℕ, _+_, _^_, _≤_, _<_};
+ghost use lib.ListN.{length};
+ghost use Rattle.literals.specs.Literals.{positive};
+ghost use Rattle.sections.specs.Sections.{Clause};
+ghost use Rattle.truth.specs.Truth.{Assignment, value, clauseTrue};
+ghost use Rattle.truth.specs.Tested.{tested, said, Countable};
+ghost use Rattle.cells.specs.Cells.{ruled};
+ghost use Rattle.cells.specs.declared.rule.Rule.the-variants.{Space};
+ghost use Rattle.colored.specs.Models.{Of, AllOf};
+
+// One clause, of which it is known whether it holds.
+pub fn test_one(holds: bool, at: usize) -> Tested
+    requires { ⌜ at + 1 < 2 ^ 63 ⌝ }
+    ensures { λ r. ⌜ ((β : Assignment) (c : Clause) → clauseTrue β c ≡ holds → said r ≡ tested β at (c ∷ [])) ⌝ }
+{
+    if holds {
+        return Tested::Fine(at + 1);
+    }
+    Tested::False(at)
+}
+
+// Whether some position is on.
+pub fn some_on(model: &[u8], found: &[usize]) -> bool
+    requires { ⌜ AllOf (now model) (now found) ⌝ }
+    ensures { λ r. ⌜ r ≡ clauseTrue (value (now (model .entry))) (map positive (now (found .entry))) ⌝ }
+{
+    for i in 0..found.len() {
+        if on(model, found[i]) {
+            return true;
+        }
+    }
+    false
+}
+
+// 8: a cell that is covered has the colour.
+pub fn test_space(model: &[u8], found: &[usize], v: usize, at: usize) -> Tested
+    requires { ⌜ AllOf (now model) (now found) × Of (now model) v ⌝ }
+    requires { ⌜ Countable at (ruled Space v (now found)) ⌝ }
+    ensures { λ r. ⌜ said r ≡ tested (value (now (model .entry))) at (ruled Space v (now (found .entry))) ⌝ }
+{
+    let n = found.len();
+    if on(model, v) {
+        return Tested::Fine(at + n);
+    }
+    for i in 0..n {
+        if on(model, found[i]) {
+            return Tested::False(at + i);
+        }
+    }
+    Tested::Fine(at + n)
+}
