@@ -1,5 +1,6 @@
 pub mod Counting
 pub mod Showing
 pub mod Negating
+pub mod SectionTests
 pub mod Ordering
 pub mod Acceptance

@@ -1,4 +1,7 @@
 // Models: the checker, the picture that a model shows, and the clause that blocks it.
-pub mod block;
-pub mod count;
-pub mod picture;
+mod block;
+pub mod call;
+mod check;
+mod count;
+mod families;
+mod picture;

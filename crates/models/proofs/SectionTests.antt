@@ -1,0 +1,53 @@
+-- The ten sections tested one after another, in the groups in which that is done.
+use mathlib.Core.Path.{_≡_, refl, sym, ap, _∙_}
+use mathlib.Core.List.{List, [], _∷_, _++_, append-assoc, append-nil}
+use Prim.Native.Nat.{ℕ, _+_, _≤_, _<_}
+use native.Mathlib.Omega.{arith}
+use lib.ListN.{length, length-append}
+use Rattle.sections.specs.Sections.{Clause}
+use Rattle.truth.specs.Tested.{Countable}
+use Rattle.puzzles.specs.Puzzle.{Puzzle, width, height, lines}
+use Rattle.puzzles.specs.Good.{Good}
+use Rattle.boards.specs.Reading.{Stands}
+use Rattle.boards.specs.declared.board.Board.{Board}
+use Rattle.placement.specs.Placement.{ofLines, ofColumns, ofRows}
+use Rattle.placement.specs.declared.rule.Rule.{Rule}
+use Rattle.placement.specs.declared.rule.Rule.the-variants.{Positions, Once, Overlap}
+use Rattle.cells.specs.Cells.{ofCells, pointOnce, precomputedCells}
+use Rattle.cells.specs.declared.rule.Rule.the-variants.{Color, Space}
+use Rattle.counts.specs.Families.{families, joined, clauses}
+use Rattle.counts.proofs.Totals.{counts-small}
+use Rattle.clauses.specs.Groups.{both, lineSections, cellSections}
+
+joined-append : (a b : List (List Clause)) → joined (a ++ b) ≡ joined a ++ joined b
+unfolding joined
+joined-append [] b = refl
+joined-append (s ∷ a) b = rw (joined-append a b, append-assoc)
+
+-- the columns, then the rows
+module _ (z : Puzzle) (rule : Rule) where
+  pub both-are : {b : Board} → Stands b z → joined (both z rule) ≡ ofLines z rule 0 (b .width) ++ ofLines z rule (b .width) (b .height)
+  unfolding joined
+  both-are S = rw (S .width-is, S .height-is, append-nil)
+
+pub lines-within : (z : Puzzle) {b : Board} → Stands b z → (0 + b .width ≤ lines z) × (b .width + b .height ≤ lines z)
+lines-within z S = rw (S .width-is, S .height-is) (omega arith, omega arith)
+
+module _ (z : Puzzle) where
+  -- 1 to 6
+  pub lines-are : joined (lineSections z) ≡ joined (both z Positions) ++ (joined (both z Once) ++ joined (both z Overlap))
+  lines-are = joined-append (both z Positions) (both z Once ++ both z Overlap) ∙ ap (λ l. joined (both z Positions) ++ l) (joined-append (both z Once) (both z Overlap))
+
+  -- 7 to 10
+  pub cells-are : joined (cellSections z) ≡ ofCells z Color ++ (ofCells z Space ++ (pointOnce z ++ precomputedCells z))
+  unfolding joined
+  cells-are = rw append-nil
+
+  pub all-are : clauses z ≡ joined (lineSections z) ++ joined (cellSections z)
+  unfolding families
+  all-are = joined-append (lineSections z) (cellSections z)
+
+  -- they are not many
+  pub all-countable : Good z → Countable 0 (clauses z)
+  unfolding families joined
+  all-countable G = ?
