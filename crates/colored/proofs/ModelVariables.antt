@@ -1,5 +1,5 @@
 -- A model with a value for each variable has one for each position that covers a cell, and for each colour of a cell.
-use mathlib.Core.Path.{_≡_, sym, ap}
+use mathlib.Core.Path.{_≡_}
 use mathlib.Core.List.{List}
 use Prim.Native.Nat.{ℕ, _+_, _-_, _*_, _≤_, _<_}
 use native.Mathlib.Omega.{arith}
@@ -11,7 +11,7 @@ use Rattle.lines.proofs.Packing.{packed-length}
 use Rattle.puzzles.specs.Puzzle.{Puzzle, lines, width, height, clueAt}
 use Rattle.puzzles.specs.Checks.{puzzle}
 use Rattle.boards.specs.declared.board.Board.{Board}
-use Rattle.numbering.specs.Variables.{Line, lineAt, many, hues, cellFirst, variables}
+use Rattle.numbering.specs.Variables.{lineAt, hues, cellFirst, variables}
 use Rattle.numbering.specs.Names.{position}
 use Rattle.numbering.proofs.Bounds.{first-some}
 use Rattle.numbering.proofs.OneToOne.{number-within}
