@@ -93,6 +93,7 @@ fn test_space_line(
     test_space(model, &found[..n], v, at)
 }
 
+// What the rule asks of line l and its cell t.
 pub fn test_line(
     words: &[u32],
     table: &[u32],
