@@ -36,6 +36,9 @@ module _ (model : List ℕ) (z : Puzzle) (all : length model ≡ variables z) wh
         let i : c < width z * height z = omega (arith, place-within (height z) (width z) y x (omega (arith, S .stands .height-is)) (omega (arith, S .stands .width-is)), mul-comm (height z) (width z)) in
         rw (all, cell-is S x y, S .hues-are) (omega (arith, first-some z (lines z)), omega (arith, first-some z (lines z), part-within (width z * height z) (hues z) c i))
 
+    pub color-within : (r : ℕ) → r < k → Of model (cellAt board k x y + r)
+    color-within r m = (omega (arith, cell-within), omega (arith, cell-within))
+
 pub masks-within : (model : List ℕ) {ws : List ℕ} {board : Board} {palette : List ℕ} → Masked ws board palette → length model ≡ variables (puzzle ws)
     → (0 < board .first) × (board .first + length (take (length ws - (board .cells + 1)) (drop (board .cells + 1) ws)) * length palette ≤ length model + 1)
 unfolding variables
