@@ -7,7 +7,7 @@ use native.Mathlib.Omega.{arith}
 use native.Mathlib.Nat.{add-zero}
 use lib.IntN.{ℤ}
 use lib.ListN.{length, getD, length-map}
-use Rattle.lists.specs.Each.{each, tab}
+use Rattle.lists.specs.Each.{tab}
 use Rattle.lists.proofs.Eaches.{rest, rest-first, rest-next, rest-done}
 use Rattle.literals.specs.Literals.{positive, negative}
 use Rattle.sections.specs.Sections.{Clause}
@@ -71,15 +71,15 @@ module _ (β : Assignment) where
   module _ (v : ℕ) (us : List ℕ) (p : ℕ) where
     -- ---- 7
 
-    -- its one clause, of which it was tested whether it is true
-    module _ (h : 0 < v) (t : Tested) {b : Bool} (o : (β : Assignment) (c : Clause) → clauseTrue β c ≡ b → said t ≡ tested β p (c ∷ [])) where
-      pub color-off : β v ≡ false → true ≡ b → said t ≡ tested β p (ruled Color v us)
-      unfolding ruled
-      color-off e q = o β _ (last-true (map positive us) (negative v) (negative-true β v h ∙ rw e) ∙ q)
+    pub color-off : 0 < v → β v ≡ false → said (Fine (p + 1)) ≡ tested β p (ruled Color v us)
+    unfolding ruled
+    color-off h e = one-true β p _ (last-true (map positive us) (negative v) (negative-true β v h ∙ rw e))
 
-      pub color-on : β v ≡ true → b ≡ clauseTrue β (map positive us) → said t ≡ tested β p (ruled Color v us)
-      unfolding ruled
-      color-on e q = o β _ (last-false (map positive us) (negative v) (negative-true β v h ∙ rw e) ∙ sym q)
+    -- where it was tested whether some position is on
+    pub color-on : 0 < v → β v ≡ true → (t : Tested) {b : Bool} → ((β : Assignment) (c : Clause) → clauseTrue β c ≡ b → said t ≡ tested β p (c ∷ [])) → b ≡ clauseTrue β (map positive us)
+        → said t ≡ tested β p (ruled Color v us)
+    unfolding ruled
+    color-on h e t o q = o β _ (last-false (map positive us) (negative v) (negative-true β v h ∙ rw e) ∙ sym q)
 
     -- ---- 8: where the cell variable is on, all are true; else turn i tests the i-th position
 

@@ -1,9 +1,9 @@
 -- Two lists of clauses tested, one after the other.
-use mathlib.Core.Path.{_≡_, sym}
+use mathlib.Core.Path.{_≡_}
 use mathlib.Core.List.{List, _++_}
 use Prim.Native.Nat.{ℕ}
 use native.Mathlib.Omega.{arith}
-use lib.ListN.{length, length-append}
+use lib.ListN.{length-append}
 use Rattle.sections.specs.Sections.{Clause}
 use Rattle.truth.specs.Truth.{Assignment}
 use Rattle.truth.specs.Tested.{tested, said, Countable}
@@ -12,9 +12,6 @@ use Rattle.truth.specs.declared.Tested.the-variants.{Fine, False}
 use Rattle.truth.proofs.Testing.{tested-on, tested-off, tested-place}
 
 module _ (β : Assignment) (p : ℕ) (cs ds : List Clause) where
-  pub joined-first : Countable p (cs ++ ds) → Countable p cs
-  joined-first r = omega (arith, length-append cs ds)
-
   module _ (t : Tested) (e : said t ≡ tested β p cs) where
     pub joined-stop : {q : ℕ} → t ≡ False q → said t ≡ tested β p (cs ++ ds)
     joined-stop {q} d = rw d (tested-off β p q cs ds (rw d at e))

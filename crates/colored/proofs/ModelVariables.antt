@@ -1,5 +1,5 @@
 -- A model with a value for each variable has one for each position that covers a cell, and for each colour of a cell.
-use mathlib.Core.Path.{_≡_, sym, ap}
+use mathlib.Core.Path.{_≡_}
 use mathlib.Core.List.{List}
 use Prim.Native.Nat.{ℕ, _+_, _-_, _*_, _≤_, _<_}
 use native.Mathlib.Omega.{arith}
@@ -11,7 +11,7 @@ use Rattle.lines.proofs.Packing.{packed-length}
 use Rattle.puzzles.specs.Puzzle.{Puzzle, lines, width, height, clueAt}
 use Rattle.puzzles.specs.Checks.{puzzle}
 use Rattle.boards.specs.declared.board.Board.{Board}
-use Rattle.numbering.specs.Variables.{Line, lineAt, many, hues, cellFirst, variables}
+use Rattle.numbering.specs.Variables.{lineAt, hues, cellFirst, variables}
 use Rattle.numbering.specs.Names.{position}
 use Rattle.numbering.proofs.Bounds.{first-some}
 use Rattle.numbering.proofs.OneToOne.{number-within}
@@ -35,6 +35,9 @@ module _ (model : List ℕ) (z : Puzzle) (all : length model ≡ variables z) wh
         let c = y * width z + x in
         let i : c < width z * height z = omega (arith, place-within (height z) (width z) y x (omega (arith, S .stands .height-is)) (omega (arith, S .stands .width-is)), mul-comm (height z) (width z)) in
         rw (all, cell-is S x y, S .hues-are) (omega (arith, first-some z (lines z)), omega (arith, first-some z (lines z), part-within (width z * height z) (hues z) c i))
+
+    pub color-within : (r : ℕ) → r < k → Of model (cellAt board k x y + r)
+    color-within r m = (omega (arith, cell-within), omega (arith, cell-within))
 
 pub masks-within : (model : List ℕ) {ws : List ℕ} {board : Board} {palette : List ℕ} → Masked ws board palette → length model ≡ variables (puzzle ws)
     → (0 < board .first) × (board .first + length (take (length ws - (board .cells + 1)) (drop (board .cells + 1) ws)) * length palette ≤ length model + 1)

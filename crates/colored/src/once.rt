@@ -1,7 +1,7 @@
 // Family 9: no cell has two colours. Cells column by column, top to bottom.
 use boards::board::Board;
-use truth::test_at_most_one;
 use truth::Tested;
+use truth::test_at_most_one;
 ghost use mathlib.Core.Path.{_≡_};
 ghost use Prim.Native.Nat.{_<_};
 ghost use lib.ListN.{length};

@@ -2,8 +2,8 @@
 use crate::support::test_one;
 use bits::mask::has;
 use boards::board::Board;
-use truth::on;
 use truth::Tested;
+use truth::on;
 ghost use mathlib.Core.Path.{_≡_};
 ghost use Prim.Native.Nat.{_+_, _*_, _≤_, _<_};
 ghost use lib.ListN.{length};
@@ -72,7 +72,13 @@ fn test_masks(masks: &[u32], palette: &[u32], v: usize, model: &[u8], at: usize)
     Tested::Fine(to)
 }
 
-pub fn test_precomputed(words: &[u32], board: Board, palette: &[u32], model: &[u8], at: usize) -> Tested
+pub fn test_precomputed(
+    words: &[u32],
+    board: Board,
+    palette: &[u32],
+    model: &[u8],
+    at: usize,
+) -> Tested
     requires { ⌜ Masked (now words) board (now palette) × (length (now model) ≡ variables (puzzle (now words))) ⌝ }
     requires { ⌜ Countable at (precomputedCells (puzzle (now words))) ⌝ }
     ensures { λ r. ⌜ said r ≡ tested (value (now (model .entry))) at (precomputedCells (puzzle (now (words .entry)))) ⌝ }

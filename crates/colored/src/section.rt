@@ -21,7 +21,17 @@ ghost use Rattle.cells.specs.Given.{Given, ofCell};
 ghost use Rattle.colored.specs.Models.{Of};
 
 // Of the cell of column x and row y.
-fn test_color(words: &[u32], table: &[u32], width: usize, x: usize, y: usize, ask: Ask, model: &[u8], found: &mut [usize; 64], at: usize) -> Tested
+fn test_color(
+    words: &[u32],
+    table: &[u32],
+    width: usize,
+    x: usize,
+    y: usize,
+    ask: Ask,
+    model: &[u8],
+    found: &mut [usize; 64],
+    at: usize,
+) -> Tested
     requires { ⌜ Ready (now words) (now table) ⌝ }
     requires { ⌜ (width ≡ P.width (puzzle (now words))) × (x < width) × (y < P.height (puzzle (now words))) ⌝ }
     requires { ⌜ (length (now model) ≡ variables (puzzle (now words))) × Of (now model) (ask .v) ⌝ }
@@ -36,7 +46,18 @@ fn test_color(words: &[u32], table: &[u32], width: usize, x: usize, y: usize, as
     test_line(words, table, row, x, ask, model, found, next)
 }
 
-fn test_cell(rule: Rule, words: &[u32], table: &[u32], board: Board, palette: &[u32], x: usize, y: usize, model: &[u8], found: &mut [usize; 64], at: usize) -> Tested
+fn test_cell(
+    rule: Rule,
+    words: &[u32],
+    table: &[u32],
+    board: Board,
+    palette: &[u32],
+    x: usize,
+    y: usize,
+    model: &[u8],
+    found: &mut [usize; 64],
+    at: usize,
+) -> Tested
     requires { ⌜ Given (now words) (now table) board (now palette) × (length (now model) ≡ variables (puzzle (now words))) ⌝ }
     requires { ⌜ (x < board .width) × (y < board .height) ⌝ }
     requires { ⌜ Countable at (ofCell (puzzle (now words)) rule x y) ⌝ }
@@ -62,7 +83,17 @@ fn test_cell(rule: Rule, words: &[u32], table: &[u32], board: Board, palette: &[
 }
 
 // Of column x.
-fn test_column(rule: Rule, words: &[u32], table: &[u32], board: Board, palette: &[u32], x: usize, model: &[u8], found: &mut [usize; 64], at: usize) -> Tested
+fn test_column(
+    rule: Rule,
+    words: &[u32],
+    table: &[u32],
+    board: Board,
+    palette: &[u32],
+    x: usize,
+    model: &[u8],
+    found: &mut [usize; 64],
+    at: usize,
+) -> Tested
     requires { ⌜ Given (now words) (now table) board (now palette) × (length (now model) ≡ variables (puzzle (now words))) ⌝ }
     requires { ⌜ x < board .width ⌝ }
     requires { ⌜ Countable at (each (board .height) (ofCell (puzzle (now words)) rule x)) ⌝ }
@@ -79,7 +110,15 @@ fn test_column(rule: Rule, words: &[u32], table: &[u32], board: Board, palette: 
     Tested::Fine(to)
 }
 
-pub fn test_cells(rule: Rule, words: &[u32], table: &[u32], board: Board, palette: &[u32], model: &[u8], at: usize) -> Tested
+pub fn test_cells(
+    rule: Rule,
+    words: &[u32],
+    table: &[u32],
+    board: Board,
+    palette: &[u32],
+    model: &[u8],
+    at: usize,
+) -> Tested
     requires { ⌜ Given (now words) (now table) board (now palette) × (length (now model) ≡ variables (puzzle (now words))) ⌝ }
     requires { ⌜ Countable at (ofCells (puzzle (now words)) rule) ⌝ }
     ensures { λ r. ⌜ said r ≡ tested (value (now (model .entry))) at (ofCells (puzzle (now (words .entry))) rule) ⌝ }

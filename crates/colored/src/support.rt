@@ -1,10 +1,9 @@
 // Tests of a single clause, and of a cell variable and the positions that were found.
-use truth::on;
 use truth::Tested;
+use truth::on;
 ghost use mathlib.Core.Path.{_≡_};
 ghost use mathlib.Core.List.{[], _∷_, map};
-ghost use Prim.Native.Nat.{ℕ, _+_, _^_, _≤_, _<_};
-ghost use lib.ListN.{length};
+ghost use Prim.Native.Nat.{_+_, _^_, _<_};
 ghost use Rattle.literals.specs.Literals.{positive};
 ghost use Rattle.sections.specs.Sections.{Clause};
 ghost use Rattle.truth.specs.Truth.{Assignment, value, clauseTrue};

@@ -11,9 +11,6 @@ use Rattle.cells.proofs.ByColumn.{columns-are}
 use borrow.Author.Needs.{needs}
 use Rattle.colored.proofs.section.test_cells.Statement.{statement}
 use Rattle.colored.proofs.section.test_cells.Tie as tie
-use Rattle.colored.proofs.section.test_cells.Reads as reads
-use Rattle.colored.proofs.section.test_cells.Lts as lts
-use Rattle.colored.proofs.section.test_column.Reads as test-column-reads
 
 abbrev Inv-loop : tie.InvT-loop
 Inv-loop rule words table board palette model at found₀ to₀ x₀ x-end found to x = (x-end ≡ board .width) × Testing (value model) at (ofCells (puzzle words) rule) (board .width) (λ k. each (board .height) (ofCell (puzzle words) rule k)) to x
@@ -21,45 +18,18 @@ Inv-loop rule words table board palette model at found₀ to₀ x₀ x-end found
 abbrev μ-loop : tie.MeasureT-loop
 μ-loop rule words table board palette model at found₀ to₀ x₀ x-end found to x = board .width - x
 
-loop-holds : tie.Need-loop-holds Inv-loop μ-loop
-loop-holds c = (refl, testing-first _ _ _ _ _ (columns-are (c .before .before .before .before .pre .0 .0) (c .before .before .before .before .args .rule)))
-
-test-column-requires : tie.Need-test-column-requires Inv-loop μ-loop
-test-column-requires c κs = (c .before .before .before .before .before .before .before .pre .0, (omega arith, testing-room (c .before .before .loop .inv .1) (omega arith) (c .before .before .before .before .before .before .before .pre .1)))
-
-enum-known-column : tie.Need-enum-known-column Inv-loop μ-loop
-enum-known-column c = search needs
-
-enum-told : tie.Need-enum-told Inv-loop μ-loop
-enum-told c = search needs
-
-returns : tie.Need-returns Inv-loop μ-loop
-returns c = testing-stop (c .before .before .before .before .before .loop .inv .1) (omega arith) _ (c .before .before .test-column .ensures) (c .enum-told .given .1)
-
-add-x : tie.Need-add-x Inv-loop μ-loop
-add-x c = search needs
-
-loop-less : tie.Need-loop-less Inv-loop μ-loop
-loop-less c = search needs
-
-loop-again : tie.Need-loop-again Inv-loop μ-loop
-loop-again c = (c .before .before .before .before .before .before .loop .inv .0, testing-next (c .before .before .before .before .before .before .loop .inv .1) (omega arith) _ (c .before .before .before .test-column .ensures) (c .before .column .given .1))
-
-returns-2 : tie.Need-returns-2 Inv-loop μ-loop
-returns-2 c = testing-done (c .before .loop .inv .1) (omega arith)
-
 pub test-cells-spec : {M : Type 1} → statement M
 test-cells-spec =
     tie.close
     (tie.spec
     Inv-loop
     μ-loop
-    loop-holds
-    test-column-requires
-    enum-known-column
-    enum-told
-    returns
-    add-x
-    loop-less
-    loop-again
-    returns-2)
+    (λ c. (refl, testing-first _ _ _ _ _ (columns-are (c .before .before .before .before .pre .0 .0) (c .before .before .before .before .args .rule))))
+    (λ c κs. (c .before .before .before .before .before .before .before .pre .0, (omega arith, testing-room (c .before .before .loop .inv .1) (omega arith) (c .before .before .before .before .before .before .before .pre .1))))
+    (λ c. search needs)
+    (λ c. search needs)
+    (λ c. testing-stop (c .before .before .before .before .before .loop .inv .1) (omega arith) _ (c .before .before .test-column .ensures) (c .enum-told .given .1))
+    (λ c. search needs)
+    (λ c. search needs)
+    (λ c. (c .before .before .before .before .before .before .loop .inv .0, testing-next (c .before .before .before .before .before .before .loop .inv .1) (omega arith) _ (c .before .before .before .test-column .ensures) (c .before .column .given .1)))
+    (λ c. testing-done (c .before .loop .inv .1) (omega arith)))
