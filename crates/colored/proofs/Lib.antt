@@ -1,5 +1,4 @@
 pub mod CoveredTests
-pub mod JoinedTests
 pub mod ModelVariables
 pub mod UnitTests
 pub mod EachTests

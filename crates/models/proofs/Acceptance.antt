@@ -68,7 +68,7 @@ module _ (z : Puzzle) (β : Assignment) where
 -- ---- what passes
 
 module _ (z : Puzzle) (model : List ℕ) where
-  accepted-model : {m : ℕ} → accepted m ≡ modelChecks z model → Model z model × Solves z (value model)
+  pub accepted-model : {m : ℕ} → accepted m ≡ modelChecks z model → Model z model × Solves z (value model)
   unfolding modelChecks
   accepted-model e =
       let a = refuse-accepted (not (eqb (length model) (variables z))) 13 (variables z) _ e in

@@ -4,3 +4,4 @@ pub mod Negating
 pub mod SectionTests
 pub mod Ordering
 pub mod Acceptance
+pub mod Answered

@@ -1,15 +1,13 @@
 -- The order of a model's refusals, as the checker gives them one after another.
-use mathlib.Core.Path.{_≡_, refl, sym, ap, _∙_}
-use mathlib.Core.Bool.{not}
+use mathlib.Core.Path.{_≡_, refl, sym, _∙_}
 use mathlib.Core.List.{List}
 use Prim.Native.Nat.{ℕ, _+_, _-_, _*_, _≤_, _<_}
 use native.Mathlib.Omega.{arith}
 use native.Mathlib.Nat.{mul-le-mul-right}
-use lib.Dec.{eqb}
 use lib.ListN.{length}
 use borrow.Author.Tests.{eq-eqb, ne-eqb}
-use Rattle.refusals.specs.Verdict.{Verdict, accepted, refused, andThen}
-use Rattle.refusals.specs.Told.{told}
+use Rattle.refusals.specs.Verdict.{Verdict, refused, andThen}
+use Rattle.refusals.specs.Told.{refusal, told}
 use Rattle.refusals.specs.declared.Refusal.{Refusal}
 use Rattle.refusals.specs.declared.Answer.{Answer}
 use Rattle.refusals.specs.declared.Answer.the-variants.{Accepted, Refused}
@@ -19,12 +17,16 @@ use Rattle.truth.specs.Tested.{tested}
 use Rattle.puzzles.specs.Puzzle.{Puzzle, width, height}
 use Rattle.puzzles.specs.Checks.{puzzle}
 use Rattle.boards.specs.declared.board.Board.{Board}
-use Rattle.numbering.specs.Variables.{variables, hues}
+use Rattle.numbering.specs.Variables.{variables}
 use Rattle.numbering.proofs.Bounds.{cells-most, cells-first, hues-most}
 use Rattle.cells.specs.Given.{Given}
 use Rattle.cells.proofs.BoardCells.{given-shows}
 use Rattle.counts.specs.Families.{clauses}
 use Rattle.models.specs.Models.{byteChecks, cellChecks, modelChecks}
+
+-- a refusal of the puzzle is handed up unchanged
+pub puzzle-refused : (why : Refusal) {u : Verdict} → refusal why ≡ u → (v : Verdict) → refusal why ≡ andThen u v
+puzzle-refused why {u} e v = handed-up {a = Refused why} refl v ∙ rw e
 
 -- an acceptance goes on to what follows
 pub goes-on : {a : Answer} {n : ℕ} → a ≡ Accepted n → {v : Verdict} → told a ≡ v → (w : Verdict) → w ≡ andThen v w
@@ -34,7 +36,7 @@ module _ {ws table : List ℕ} {board : Board} {colors : List ℕ} (G : Given ws
   abbrev z : Puzzle
   z = puzzle ws
 
-  area-is : board .width * board .height ≡ width z * height z
+  pub area-is : board .width * board .height ≡ width z * height z
   area-is = rw (G .stands .width-is, G .stands .height-is)
 
   -- the numbers of a board are small
@@ -64,9 +66,9 @@ module _ {ws table : List ℕ} {board : Board} {colors : List ℕ} (G : Given ws
 
   module _ (model : List ℕ) where
     -- 13
-    pub other-length : (length model ≡ variables z → ⊥) → refused 13 (variables z) ≡ modelChecks z model
+    pub other-length : {n : ℕ} → n ≡ variables z → (length model ≡ n → ⊥) → refused 13 n ≡ modelChecks z model
     unfolding modelChecks
-    other-length d = rw (ne-eqb (length model) (variables z) d)
+    other-length e d = rw (e, ne-eqb (length model) (variables z) (rw e at d))
 
     module _ (size : length model ≡ variables z) where
       own-length : modelChecks z model ≡ andThen (byteChecks model) (andThen (tested (value model) 0 (clauses z)) (cellChecks (value model) (board .first) (board .width * board .height) (length colors)))

@@ -1,9 +1,9 @@
 -- The ten sections tested one after another, in the groups in which that is done.
-use mathlib.Core.Path.{_≡_, refl, sym, ap, _∙_}
+use mathlib.Core.Path.{_≡_, refl, ap, _∙_}
 use mathlib.Core.List.{List, [], _∷_, _++_, append-assoc, append-nil}
-use Prim.Native.Nat.{ℕ, _+_, _≤_, _<_}
+use Prim.Native.Nat.{_+_, _≤_}
 use native.Mathlib.Omega.{arith}
-use lib.ListN.{length, length-append}
+use lib.ListN.{length-append}
 use Rattle.sections.specs.Sections.{Clause}
 use Rattle.truth.specs.Tested.{Countable}
 use Rattle.puzzles.specs.Puzzle.{Puzzle, width, height, lines}
@@ -50,4 +50,22 @@ module _ (z : Puzzle) where
   -- they are not many
   pub all-countable : Good z → Countable 0 (clauses z)
   unfolding families joined
-  all-countable G = ?
+  all-countable G =
+      let rest₉ = pointOnce z ++ (precomputedCells z ++ []) in
+      let rest₇ = ofCells z Color ++ (ofCells z Space ++ rest₉) in
+      let rest₅ = ofColumns z Overlap ++ (ofRows z Overlap ++ rest₇) in
+      let rest₃ = ofColumns z Once ++ (ofRows z Once ++ rest₅) in
+      omega (
+        arith,
+        counts-small z G,
+        length-append (ofColumns z Positions) (ofRows z Positions ++ rest₃),
+        length-append (ofRows z Positions) rest₃,
+        length-append (ofColumns z Once) (ofRows z Once ++ rest₅),
+        length-append (ofRows z Once) rest₅,
+        length-append (ofColumns z Overlap) (ofRows z Overlap ++ rest₇),
+        length-append (ofRows z Overlap) rest₇,
+        length-append (ofCells z Color) (ofCells z Space ++ rest₉),
+        length-append (ofCells z Space) rest₉,
+        length-append (pointOnce z) (precomputedCells z ++ []),
+        length-append (precomputedCells z) [],
+      )

@@ -17,13 +17,7 @@ ghost use Rattle.cells.specs.Given.{Given};
 ghost use Rattle.counts.specs.Families.{clauses};
 ghost use Rattle.models.specs.Models.{modelChecks};
 
-fn check_clauses(
-    words: &[u32],
-    table: &[u32],
-    board: Board,
-    colors: &[u32],
-    model: &[u8],
-) -> Answer
+fn check_clauses(words: &[u32], table: &[u32], board: Board, colors: &[u32], model: &[u8]) -> Answer
     requires { ⌜ Given (now words) (now table) board (now colors) × (length (now model) ≡ variables (puzzle (now words))) ⌝ }
     ensures { λ r. ⌜ told r ≡ tested (value (now (model .entry))) 0 (clauses (puzzle (now (words .entry)))) ⌝ }
 {
@@ -34,13 +28,7 @@ fn check_clauses(
     }
 }
 
-pub fn check(
-    words: &[u32],
-    table: &[u32],
-    board: Board,
-    colors: &[u32],
-    model: &[u8],
-) -> Answer
+pub fn check(words: &[u32], table: &[u32], board: Board, colors: &[u32], model: &[u8]) -> Answer
     requires { ⌜ Given (now words) (now table) board (now colors) ⌝ }
     ensures { λ r. ⌜ told r ≡ modelChecks (puzzle (now (words .entry))) (now (model .entry)) ⌝ }
 {

@@ -42,13 +42,7 @@ fn test_both(
 }
 
 // Sections 1 to 6.
-fn test_line_sections(
-    words: &[u32],
-    table: &[u32],
-    board: Board,
-    model: &[u8],
-    at: usize,
-) -> Tested
+fn test_line_sections(words: &[u32], table: &[u32], board: Board, model: &[u8], at: usize) -> Tested
     requires { ⌜ Ready (now words) (now table) × Stands board (puzzle (now words)) × (length (now model) ≡ variables (puzzle (now words))) ⌝ }
     requires { ⌜ Countable at (joined (lineSections (puzzle (now words)))) ⌝ }
     ensures { λ r. ⌜ said r ≡ tested (value (now (model .entry))) at (joined (lineSections (puzzle (now (words .entry))))) ⌝ }

@@ -11,10 +11,10 @@ use Rattle.truth.specs.declared.Tested.{Tested}
 use Rattle.truth.specs.declared.Tested.the-variants.{Fine, False}
 use Rattle.truth.proofs.Testing.{tested-on, tested-off, tested-place}
 
-module _ (β : Assignment) (p : ℕ) (cs ds : List Clause) where
-  pub joined-first : Countable p (cs ++ ds) → Countable p cs
-  joined-first r = omega (arith, length-append cs ds)
+pub joined-first : (p : ℕ) (cs ds : List Clause) → Countable p (cs ++ ds) → Countable p cs
+joined-first p cs ds r = omega (arith, length-append cs ds)
 
+module _ (β : Assignment) (p : ℕ) (cs ds : List Clause) where
   module _ (t : Tested) (e : said t ≡ tested β p cs) where
     pub joined-stop : {q : ℕ} → t ≡ False q → said t ≡ tested β p (cs ++ ds)
     joined-stop {q} d = rw d (tested-off β p q cs ds (rw d at e))

@@ -3,7 +3,7 @@ use Prim.Native.Nat.{_+_}
 use lib.ListN.{length-append}
 use Rattle.puzzles.specs.Checks.{puzzle}
 use Rattle.cells.specs.Asked.{asked}
-use Rattle.colored.proofs.JoinedTests.{joined-stop, joined-second, joined-done}
+use Rattle.truth.proofs.JoinedTests.{joined-stop, joined-second, joined-done}
 use borrow.Author.Needs.{needs}
 use Rattle.colored.proofs.section.test_color.Statement.{statement}
 use Rattle.colored.proofs.section.test_color.Tie as tie

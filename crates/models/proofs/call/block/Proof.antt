@@ -1,82 +1,31 @@
+use Rattle.models.proofs.Answered.{given, few-many, true-within, negated-are, count-is, count-most, blocking-many, accepted-size}
+use Rattle.models.proofs.Ordering.{few}
+use Rattle.numbering.proofs.Palettes.{palette-count, palette-few}
+use Rattle.refusals.proofs.Answering.{answers-refused, answers-short, answers-wrote}
+use Rattle.truth.specs.Truth.{value}
+use native.Mathlib.Omega.{arith}
 use borrow.Author.Needs.{needs}
 use Rattle.models.proofs.call.block.Statement.{statement}
 use Rattle.models.proofs.call.block.Tie as tie
-use Rattle.models.proofs.call.block.Reads as reads
-use Rattle.models.proofs.call.block.Lts as lts
-use Rattle.models.proofs.block.write_blocking.Reads as write-blocking-reads
-use Rattle.models.proofs.check.check.Reads as check-reads
-use Rattle.models.proofs.count.count_true.Reads as count-true-reads
-use Rattle.numbering.proofs.palette.Reads as palette-reads
-
-slice-aggregate-palette : tie.Need-slice-aggregate-palette
-slice-aggregate-palette c = search needs
-
-palette-requires : tie.Need-palette-requires
-palette-requires c κs = search needs
-
-array-share-prefix-colors : tie.Need-array-share-prefix-colors
-array-share-prefix-colors c = search needs
-
-slice-aggregate-check : tie.Need-slice-aggregate-check
-slice-aggregate-check c = search needs
-
-check-requires : tie.Need-check-requires
-check-requires c κs = search needs
-
-enum-told : tie.Need-enum-told
-enum-told c = search needs
-
-enum-told-2 : tie.Need-enum-told-2
-enum-told-2 c = search needs
-
-returns : tie.Need-returns
-returns c = search needs
-
-mul-n : tie.Need-mul-n
-mul-n c = search needs
-
-mul-n-2 : tie.Need-mul-n-2
-mul-n-2 c = search needs
-
-count-true-requires : tie.Need-count-true-requires
-count-true-requires c κs = search needs
-
-add-if1 : tie.Need-add-if1
-add-if1 c = search needs
-
-add-t18 : tie.Need-add-t18
-add-t18 c = search needs
-
-returns-2 : tie.Need-returns-2
-returns-2 c = search needs
-
-write-blocking-requires : tie.Need-write-blocking-requires
-write-blocking-requires c κs = search needs
-
-same-length : tie.Need-same-length
-same-length c = search needs
-
-returns-3 : tie.Need-returns-3
-returns-3 c = search needs
 
 pub block-spec : {M : Type 1} → statement M
 block-spec =
     tie.close
     (tie.spec
-    slice-aggregate-palette
-    palette-requires
-    array-share-prefix-colors
-    slice-aggregate-check
-    check-requires
-    enum-told
-    enum-told-2
-    returns
-    mul-n
-    mul-n-2
-    count-true-requires
-    add-if1
-    add-t18
-    returns-2
-    write-blocking-requires
-    same-length
-    returns-3)
+    (λ c. search needs)
+    (λ c κs. search needs)
+    (λ c. omega (arith, palette-few _ (c .before .palette .ensures)))
+    (λ c. palette-count _ (c .before .before .palette .ensures))
+    (λ c κs. (given (c .before .before .before .before .before .before .before .pre .0) (c .before .before .before .before .before .before .before .pre .1) (c .before .before .palette .ensures)))
+    (λ c. search needs)
+    (λ c. search needs)
+    (λ c. answers-refused _ _ (c .enum-told2 .given .1) (c .before .before .check .ensures))
+    (λ c. omega (arith, few (given (c .before .before .before .before .before .before .before .before .before .before .before .pre .0) (c .before .before .before .before .before .before .before .before .before .before .before .pre .1) (c .before .before .before .before .before .before .palette .ensures))))
+    (λ c. omega (arith, few-many (given (c .before .before .before .before .before .before .before .before .before .before .before .pre .0) (c .before .before .before .before .before .before .before .before .before .before .before .pre .1) (c .before .before .before .before .before .before .palette .ensures)) (palette-count _ (c .before .before .before .before .before .before .palette .ensures))))
+    (λ c κs. ((true-within (given (c .before .before .before .before .before .before .before .before .before .before .before .pre .0) (c .before .before .before .before .before .before .before .before .before .before .before .pre .1) (c .before .before .before .before .before .before .palette .ensures)) (palette-count _ (c .before .before .before .before .before .before .palette .ensures)) (c .before .before .before .before .before .before .before .before .before .before .before .args .model .now) (accepted-size (given (c .before .before .before .before .before .before .before .before .before .before .before .pre .0) (c .before .before .before .before .before .before .before .before .before .before .before .pre .1) (c .before .before .before .before .before .before .palette .ensures)) (c .before .before .before .before .before .before .before .before .before .before .before .args .model .now) _ (c .before .enum-told .given .1) (c .before .before .before .check .ensures))) .0, (true-within (given (c .before .before .before .before .before .before .before .before .before .before .before .pre .0) (c .before .before .before .before .before .before .before .before .before .before .before .pre .1) (c .before .before .before .before .before .before .palette .ensures)) (palette-count _ (c .before .before .before .before .before .before .palette .ensures)) (c .before .before .before .before .before .before .before .before .before .before .before .args .model .now) (accepted-size (given (c .before .before .before .before .before .before .before .before .before .before .before .pre .0) (c .before .before .before .before .before .before .before .before .before .before .before .pre .1) (c .before .before .before .before .before .before .palette .ensures)) (c .before .before .before .before .before .before .before .before .before .before .before .args .model .now) _ (c .before .enum-told .given .1) (c .before .before .before .check .ensures))) .1))
+    (λ c. omega (arith, count-most (given (c .before .before .before .before .before .before .before .before .before .before .before .before .pre .0) (c .before .before .before .before .before .before .before .before .before .before .before .before .pre .1) (c .before .before .before .before .before .before .before .palette .ensures)) (palette-count _ (c .before .before .before .before .before .before .before .palette .ensures)) (value (c .before .before .before .before .before .before .before .before .before .before .before .before .args .model .now)) (c .count-true .ensures)))
+    (λ c. omega (arith, count-most (given (c .before .before .before .before .before .before .before .before .before .before .before .before .before .pre .0) (c .before .before .before .before .before .before .before .before .before .before .before .before .before .pre .1) (c .before .before .before .before .before .before .before .before .palette .ensures)) (palette-count _ (c .before .before .before .before .before .before .before .before .palette .ensures)) (value (c .before .before .before .before .before .before .before .before .before .before .before .before .before .args .model .now)) (c .before .count-true .ensures)))
+    (λ c. answers-short _ _ (rw (c .before .before .before .enum-told .given .1) at (c .before .before .before .before .before .check .ensures)) (blocking-many (given (c .before .before .before .before .before .before .before .before .before .before .before .before .before .pre .0) (c .before .before .before .before .before .before .before .before .before .before .before .before .before .pre .1) (c .before .before .before .before .before .before .before .before .palette .ensures)) (palette-count _ (c .before .before .before .before .before .before .before .before .palette .ensures)) (value (c .before .before .before .before .before .before .before .before .before .before .before .before .before .args .model .now)) (c .before .count-true .ensures)) (c .if1 .taken))
+    (λ c κs. ((true-within (given (c .before .before .before .before .before .before .before .before .before .before .before .before .before .before .pre .0) (c .before .before .before .before .before .before .before .before .before .before .before .before .before .before .pre .1) (c .before .before .before .before .before .before .before .before .before .palette .ensures)) (palette-count _ (c .before .before .before .before .before .before .before .before .before .palette .ensures)) (c .before .before .before .before .before .before .before .before .before .before .before .before .before .before .args .model .now) (accepted-size (given (c .before .before .before .before .before .before .before .before .before .before .before .before .before .before .pre .0) (c .before .before .before .before .before .before .before .before .before .before .before .before .before .before .pre .1) (c .before .before .before .before .before .before .before .before .before .palette .ensures)) (c .before .before .before .before .before .before .before .before .before .before .before .before .before .before .args .model .now) _ (c .before .before .before .before .enum-told .given .1) (c .before .before .before .before .before .before .check .ensures))), (count-is (given (c .before .before .before .before .before .before .before .before .before .before .before .before .before .before .pre .0) (c .before .before .before .before .before .before .before .before .before .before .before .before .before .before .pre .1) (c .before .before .before .before .before .before .before .before .before .palette .ensures)) (palette-count _ (c .before .before .before .before .before .before .before .before .before .palette .ensures)) (value (c .before .before .before .before .before .before .before .before .before .before .before .before .before .before .args .model .now)) (c .before .before .count-true .ensures), omega (arith, c .before .if1 .left))))
+    (λ c. search needs)
+    (λ c. answers-wrote _ _ (rw (c .before .before .before .before .before .before .enum-told .given .1) at (c .before .before .before .before .before .before .before .before .check .ensures)) (omega (arith, blocking-many (given (c .before .before .before .before .before .before .before .before .before .before .before .before .before .before .before .before .pre .0) (c .before .before .before .before .before .before .before .before .before .before .before .before .before .before .before .before .pre .1) (c .before .before .before .before .before .before .before .before .before .before .before .palette .ensures)) (palette-count _ (c .before .before .before .before .before .before .before .before .before .before .before .palette .ensures)) (value (c .before .before .before .before .before .before .before .before .before .before .before .before .before .before .before .before .args .model .now)) (c .before .before .before .before .count-true .ensures), c .before .before .before .if1 .left)) (rw (negated-are (given (c .before .before .before .before .before .before .before .before .before .before .before .before .before .before .before .before .pre .0) (c .before .before .before .before .before .before .before .before .before .before .before .before .before .before .before .before .pre .1) (c .before .before .before .before .before .before .before .before .before .before .before .palette .ensures)) (palette-count _ (c .before .before .before .before .before .before .before .before .before .before .before .palette .ensures)) (value (c .before .before .before .before .before .before .before .before .before .before .before .before .before .before .before .before .args .model .now))) at (c .before .write-blocking .ensures))))

@@ -1,48 +1,21 @@
+use Rattle.models.proofs.Ordering.{puzzle-refused}
+use Rattle.refusals.proofs.Answering.{answers-refused}
+use mathlib.Core.Path.{refl}
+use native.Mathlib.Omega.{arith}
 use borrow.Author.Needs.{needs}
 use Rattle.models.proofs.call.blocking.Statement.{statement}
 use Rattle.models.proofs.call.blocking.Tie as tie
-use Rattle.models.proofs.call.blocking.Reads as reads
-use Rattle.models.proofs.call.blocking.Lts as lts
-use Rattle.boards.proofs.board.read_puzzle.Reads as read-puzzle-reads
-use Rattle.models.proofs.call.block.Reads as block-reads
-
-slice-aggregate-read-puzzle : tie.Need-slice-aggregate-read-puzzle
-slice-aggregate-read-puzzle c = search needs
-
-read-puzzle-requires : tie.Need-read-puzzle-requires
-read-puzzle-requires c κs = search needs
-
-enum-known-reading : tie.Need-enum-known-reading
-enum-known-reading c = search needs
-
-enum-known-reading-2 : tie.Need-enum-known-reading-2
-enum-known-reading-2 c = search needs
-
-slice-aggregate-block : tie.Need-slice-aggregate-block
-slice-aggregate-block c = search needs
-
-block-requires : tie.Need-block-requires
-block-requires c κs = search needs
-
-returns : tie.Need-returns
-returns c = search needs
-
-same-length : tie.Need-same-length
-same-length c = search needs
-
-returns-2 : tie.Need-returns-2
-returns-2 c = search needs
 
 pub blocking-spec : {M : Type 1} → statement M
 blocking-spec =
     tie.close
     (tie.spec
-    slice-aggregate-read-puzzle
-    read-puzzle-requires
-    enum-known-reading
-    enum-known-reading-2
-    slice-aggregate-block
-    block-requires
-    returns
-    same-length
-    returns-2)
+    (λ c. search needs)
+    (λ c κs. search needs)
+    (λ c. search needs)
+    (λ c. search needs)
+    (λ c. search needs)
+    (λ c κs. (rw (c .before .before .before .reading2 .given .1) at (c .before .before .before .before .before .before .read-puzzle .ensures), omega (arith, c .before .before .before .before .before .before .read-puzzle .kept .1 .0)))
+    (λ c. answers-refused _ _ refl (puzzle-refused (c .before .reading .given .0 .0) (rw (c .before .reading .given .1) at (c .before .before .before .before .read-puzzle .ensures)) _))
+    (λ c. search needs)
+    (λ c. rw (← (rw (c .before .before .before .before .before .reading2 .given .1) at (c .before .before .before .before .before .before .before .before .read-puzzle .ensures)) .checked) (c .before .block .ensures)))

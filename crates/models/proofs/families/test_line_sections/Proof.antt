@@ -1,51 +1,25 @@
+use Rattle.models.proofs.SectionTests.{lines-are}
+use Rattle.truth.proofs.JoinedTests.{joined-first, joined-stop, joined-second, joined-done}
+use Rattle.puzzles.specs.Checks.{puzzle}
+use Rattle.counts.specs.Families.{joined}
+use Rattle.clauses.specs.Groups.{both}
+use Rattle.placement.specs.declared.rule.Rule.the-variants.{Positions, Once, Overlap}
+use mathlib.Core.List.{_++_}
 use borrow.Author.Needs.{needs}
 use Rattle.models.proofs.families.test_line_sections.Statement.{statement}
 use Rattle.models.proofs.families.test_line_sections.Tie as tie
-use Rattle.models.proofs.families.test_line_sections.Reads as reads
-use Rattle.models.proofs.families.test_line_sections.Lts as lts
-use Rattle.models.proofs.families.test_both.Reads as test-both-reads
-
-test-both-requires : tie.Need-test-both-requires
-test-both-requires c κs = search needs
-
-enum-known-some : tie.Need-enum-known-some
-enum-known-some c = search needs
-
-enum-told : tie.Need-enum-told
-enum-told c = search needs
-
-returns : tie.Need-returns
-returns c = search needs
-
-test-both-requires-2 : tie.Need-test-both-requires-2
-test-both-requires-2 c κs = search needs
-
-enum-known-once : tie.Need-enum-known-once
-enum-known-once c = search needs
-
-enum-told-2 : tie.Need-enum-told-2
-enum-told-2 c = search needs
-
-returns-2 : tie.Need-returns-2
-returns-2 c = search needs
-
-test-both-requires-3 : tie.Need-test-both-requires-3
-test-both-requires-3 c κs = search needs
-
-returns-3 : tie.Need-returns-3
-returns-3 c = search needs
 
 pub test-line-sections-spec : {M : Type 1} → statement M
 test-line-sections-spec =
     tie.close
     (tie.spec
-    test-both-requires
-    enum-known-some
-    enum-told
-    returns
-    test-both-requires-2
-    enum-known-once
-    enum-told-2
-    returns-2
-    test-both-requires-3
-    returns-3)
+    (λ c κs. (c .before .before .before .pre .0, joined-first _ (joined (both (puzzle (c .before .before .before .args .words .now)) Positions)) ((joined (both (puzzle (c .before .before .before .args .words .now)) Once)) ++ (joined (both (puzzle (c .before .before .before .args .words .now)) Overlap))) (rw (lines-are (puzzle (c .before .before .before .args .words .now))) at (c .before .before .before .pre .1))))
+    (λ c. search needs)
+    (λ c. search needs)
+    (λ c. rw (lines-are (puzzle (c .before .before .before .before .before .before .args .words .now))) (joined-stop _ _ (joined (both (puzzle (c .before .before .before .before .before .before .args .words .now)) Positions)) ((joined (both (puzzle (c .before .before .before .before .before .before .args .words .now)) Once)) ++ (joined (both (puzzle (c .before .before .before .before .before .before .args .words .now)) Overlap))) _ (c .before .before .test-both .ensures) (c .enum-told .given .1)))
+    (λ c κs. (c .before .before .before .before .before .before .before .pre .0, joined-first _ (joined (both (puzzle (c .before .before .before .before .before .before .before .args .words .now)) Once)) (joined (both (puzzle (c .before .before .before .before .before .before .before .args .words .now)) Overlap)) (joined-second _ _ (joined (both (puzzle (c .before .before .before .before .before .before .before .args .words .now)) Positions)) ((joined (both (puzzle (c .before .before .before .before .before .before .before .args .words .now)) Once)) ++ (joined (both (puzzle (c .before .before .before .before .before .before .before .args .words .now)) Overlap))) _ (c .before .before .before .test-both .ensures) (c .before .some .given .1) (rw (lines-are (puzzle (c .before .before .before .before .before .before .before .args .words .now))) at (c .before .before .before .before .before .before .before .pre .1)))))
+    (λ c. search needs)
+    (λ c. search needs)
+    (λ c. rw (lines-are (puzzle (c .before .before .before .before .before .before .before .before .before .before .args .words .now))) (joined-done _ _ (joined (both (puzzle (c .before .before .before .before .before .before .before .before .before .before .args .words .now)) Positions)) ((joined (both (puzzle (c .before .before .before .before .before .before .before .before .before .before .args .words .now)) Once)) ++ (joined (both (puzzle (c .before .before .before .before .before .before .before .before .before .before .args .words .now)) Overlap))) _ (c .before .before .before .before .before .before .test-both .ensures) (c .before .before .before .before .some .given .1) (c .before .before .test-both2 .result) (joined-stop _ _ (joined (both (puzzle (c .before .before .before .before .before .before .before .before .before .before .args .words .now)) Once)) (joined (both (puzzle (c .before .before .before .before .before .before .before .before .before .before .args .words .now)) Overlap)) _ (c .before .before .test-both2 .ensures) (c .enum-told2 .given .1))))
+    (λ c κs. (c .before .before .before .before .before .before .before .before .before .before .before .pre .0, joined-second _ _ (joined (both (puzzle (c .before .before .before .before .before .before .before .before .before .before .before .args .words .now)) Once)) (joined (both (puzzle (c .before .before .before .before .before .before .before .before .before .before .before .args .words .now)) Overlap)) _ (c .before .before .before .test-both2 .ensures) (c .before .once .given .1) (joined-second _ _ (joined (both (puzzle (c .before .before .before .before .before .before .before .before .before .before .before .args .words .now)) Positions)) ((joined (both (puzzle (c .before .before .before .before .before .before .before .before .before .before .before .args .words .now)) Once)) ++ (joined (both (puzzle (c .before .before .before .before .before .before .before .before .before .before .before .args .words .now)) Overlap))) _ (c .before .before .before .before .before .before .before .test-both .ensures) (c .before .before .before .before .before .some .given .1) (rw (lines-are (puzzle (c .before .before .before .before .before .before .before .before .before .before .before .args .words .now))) at (c .before .before .before .before .before .before .before .before .before .before .before .pre .1)))))
+    (λ c. rw (lines-are (puzzle (c .before .before .before .before .before .before .before .before .before .before .before .before .args .words .now))) (joined-done _ _ (joined (both (puzzle (c .before .before .before .before .before .before .before .before .before .before .before .before .args .words .now)) Positions)) ((joined (both (puzzle (c .before .before .before .before .before .before .before .before .before .before .before .before .args .words .now)) Once)) ++ (joined (both (puzzle (c .before .before .before .before .before .before .before .before .before .before .before .before .args .words .now)) Overlap))) _ (c .before .before .before .before .before .before .before .before .test-both .ensures) (c .before .before .before .before .before .before .some .given .1) (c .test-both3 .result) (joined-done _ _ (joined (both (puzzle (c .before .before .before .before .before .before .before .before .before .before .before .before .args .words .now)) Once)) (joined (both (puzzle (c .before .before .before .before .before .before .before .before .before .before .before .before .args .words .now)) Overlap)) _ (c .before .before .before .before .test-both2 .ensures) (c .before .before .once .given .1) (c .test-both3 .result) (c .test-both3 .ensures)))))

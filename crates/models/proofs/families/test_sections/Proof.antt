@@ -1,36 +1,19 @@
+use Rattle.models.proofs.SectionTests.{all-are, all-countable}
+use Rattle.truth.proofs.JoinedTests.{joined-first, joined-stop, joined-second, joined-done}
+use Rattle.puzzles.specs.Checks.{puzzle}
+use Rattle.counts.specs.Families.{joined}
+use Rattle.clauses.specs.Groups.{lineSections, cellSections}
 use borrow.Author.Needs.{needs}
 use Rattle.models.proofs.families.test_sections.Statement.{statement}
 use Rattle.models.proofs.families.test_sections.Tie as tie
-use Rattle.models.proofs.families.test_sections.Reads as reads
-use Rattle.models.proofs.families.test_sections.Lts as lts
-use Rattle.models.proofs.families.test_cell_sections.Reads as test-cell-sections-reads
-use Rattle.models.proofs.families.test_line_sections.Reads as test-line-sections-reads
-
-test-line-sections-requires : tie.Need-test-line-sections-requires
-test-line-sections-requires c κs = search needs
-
-enum-known-lines : tie.Need-enum-known-lines
-enum-known-lines c = search needs
-
-enum-told : tie.Need-enum-told
-enum-told c = search needs
-
-returns : tie.Need-returns
-returns c = search needs
-
-test-cell-sections-requires : tie.Need-test-cell-sections-requires
-test-cell-sections-requires c κs = search needs
-
-returns-2 : tie.Need-returns-2
-returns-2 c = search needs
 
 pub test-sections-spec : {M : Type 1} → statement M
 test-sections-spec =
     tie.close
     (tie.spec
-    test-line-sections-requires
-    enum-known-lines
-    enum-told
-    returns
-    test-cell-sections-requires
-    returns-2)
+    (λ c κs. ((c .before .before .before .before .pre .0 .ready, c .before .before .before .before .pre .0 .stands, c .before .before .before .before .pre .1), joined-first 0 (joined (lineSections (puzzle (c .before .before .before .before .args .words .now)))) (joined (cellSections (puzzle (c .before .before .before .before .args .words .now)))) (rw (all-are (puzzle (c .before .before .before .before .args .words .now))) at (all-countable (puzzle (c .before .before .before .before .args .words .now)) (c .before .before .before .before .pre .0 .ready .good)))))
+    (λ c. search needs)
+    (λ c. search needs)
+    (λ c. rw (all-are (puzzle (c .before .before .before .before .before .before .before .args .words .now))) (joined-stop _ _ (joined (lineSections (puzzle (c .before .before .before .before .before .before .before .args .words .now)))) (joined (cellSections (puzzle (c .before .before .before .before .before .before .before .args .words .now)))) _ (c .before .before .test-line-sections .ensures) (c .enum-told .given .1)))
+    (λ c κs. (c .before .before .before .before .before .before .before .before .pre, joined-second _ _ (joined (lineSections (puzzle (c .before .before .before .before .before .before .before .before .args .words .now)))) (joined (cellSections (puzzle (c .before .before .before .before .before .before .before .before .args .words .now)))) _ (c .before .before .before .test-line-sections .ensures) (c .before .lines .given .1) (rw (all-are (puzzle (c .before .before .before .before .before .before .before .before .args .words .now))) at (all-countable (puzzle (c .before .before .before .before .before .before .before .before .args .words .now)) (c .before .before .before .before .before .before .before .before .pre .0 .ready .good)))))
+    (λ c. rw (all-are (puzzle (c .before .before .before .before .before .before .before .before .before .args .words .now))) (joined-done _ _ (joined (lineSections (puzzle (c .before .before .before .before .before .before .before .before .before .args .words .now)))) (joined (cellSections (puzzle (c .before .before .before .before .before .before .before .before .before .args .words .now)))) _ (c .before .before .before .before .test-line-sections .ensures) (c .before .before .lines .given .1) (c .test-cell-sections .result) (c .test-cell-sections .ensures))))
