@@ -1,0 +1,2 @@
+pub mod ProbeReaders
+pub mod ProbeWalk

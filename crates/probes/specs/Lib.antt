@@ -1,3 +1,4 @@
 pub mod Probes
+pub mod Words
 pub mod Implications
 pub mod Meaning

@@ -1,1 +1,2 @@
 // The implications of probes: what a probed colour of a cell is found to imply, as clauses.
+pub mod read;
