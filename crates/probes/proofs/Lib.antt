@@ -1,2 +1,5 @@
 pub mod ProbeReaders
 pub mod ProbeWalk
+pub mod AcceptedProbes
+pub mod JoinedLists
+pub mod ProbesMeaning
