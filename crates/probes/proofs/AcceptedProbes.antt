@@ -13,14 +13,19 @@ use Rattle.puzzles.specs.Checks.{colors}
 use Rattle.puzzles.specs.Walk.{Walk, got, stop}
 use Rattle.puzzles.proofs.Readers.{Each}
 use Rattle.probes.specs.Probes.{Probe, readProbes, walked, probesOf, probes, probeChecks}
+use Rattle.probes.specs.ByWords.{checksOn}
 use Rattle.probes.specs.Words.{probesWords}
 use Rattle.probes.proofs.ProbeReaders.{FineProbe, noProbe, probes-reader}
 
--- they are few, they are the words of the probes that they hold, and each of these is fine
-pub record Accepted (z : Puzzle) (us : List ℕ) : Type 0 where
+-- the probes that they hold
+abbrev pub heldIn : ℕ → ℕ → ℕ → List ℕ → List Probe
+heldIn w h K us = probesOf (readProbes w h K us)
+
+-- they are few, they are the words of these probes, and each of them is fine
+pub record Accepted (w h K : ℕ) (us : List ℕ) : Type 0 where
   pub few : length us ≤ 1048576
-  pub words-are : us ≡ length (probes z us) ∷ probesWords (probes z us)
-  pub fine : Each noProbe (FineProbe (width z) (height z) (colors z)) (probes z us)
+  pub words-are : us ≡ length (heldIn w h K us) ∷ probesWords (heldIn w h K us)
+  pub fine : Each noProbe (FineProbe w h K) (heldIn w h K us)
 
 module _ (w h K : ℕ) (us : List ℕ) where
   walked-by : (walk : Walk (List Probe)) → readProbes w h K us ≡ walk → {n : ℕ} → accepted n ≡ walked walk
@@ -35,8 +40,8 @@ module _ (w h K : ℕ) (us : List ℕ) where
       whole (x ∷ ws) vs l = absurd (omega arith)
   walked-by (stop k p) e a = let z : _≡_ {A = ℕ} 0 1 = cc in absurd (omega arith)
 
-pub accepted-probes : (z : Puzzle) (us : List ℕ) {n : ℕ} → accepted n ≡ probeChecks z us → Accepted z us
-accepted-probes z us e =
-    let r = refuse-accepted (ltb 1048576 (length us)) _ _ _ e in
-    let w = walked-by (width z) (height z) (colors z) us (readProbes (width z) (height z) (colors z) us) refl (r .1) in
-    record { few = ltb-false 1048576 (length us) (r .0); words-are = w .0; fine = w .1 }
+  pub accepted-probes : {n : ℕ} → accepted n ≡ checksOn w h K us → Accepted w h K us
+  accepted-probes e =
+      let r = refuse-accepted (ltb 1048576 (length us)) _ _ _ e in
+      let a = walked-by (readProbes w h K us) refl (r .1) in
+      record { few = ltb-false 1048576 (length us) (r .0); words-are = a .0; fine = a .1 }

@@ -22,6 +22,7 @@ use Rattle.puzzles.proofs.Sections.{word-none, word-some, count-missing, count-
 use Rattle.puzzles.proofs.Readers.{Each}
 use Rattle.puzzles.proofs.Places.{Section, section-read, stopped}
 use Rattle.probes.specs.Probes.{Claim, readClaim, listed, isColor, readProbe, readProbes, walked}
+use Rattle.probes.specs.ByWords.{checksOn}
 use Rattle.probes.specs.Words.{claimAt, probesWords}
 use Rattle.probes.proofs.ProbeReaders.{FineProbe, noProbe, claim-reader, probes-reader, listed-is}
 
@@ -120,7 +121,7 @@ module _ (w h at : ℕ) (part : List ℕ) {a : Answer} (told-is : told a ≡ out
 
 module _ (w h K : ℕ) (ws : List ℕ) where
   abbrev Checked : Verdict → Type 0
-  Checked v = v ≡ refuse (ltb 1048576 (length ws)) 20 (length ws) (walked (readProbes w h K ws))
+  Checked v = v ≡ checksOn w h K ws
 
   -- ps are read from the words before place j
   abbrev pub ReadTo : ℕ → Type 0

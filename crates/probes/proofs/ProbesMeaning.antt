@@ -142,4 +142,4 @@ probes-mean ws us n m e f grid full β extends =
     let z = puzzle ws in
     let ps = probes z us in
     rw (joined-each noProbe (λ p. joined (map (implication z (p .premise)) (p .impacts))) ps)
-    (each-means β (length ps) _ (λ i h. probe-means z β (accepted-is ws e .good) grid full extends (getD ps i noProbe) (accepted-probes z us f .fine i h)))
+    (each-means β (length ps) _ (λ i h. probe-means z β (accepted-is ws e .good) grid full extends (getD ps i noProbe) (accepted-probes (width z) (height z) (colors z) us f .fine i h)))

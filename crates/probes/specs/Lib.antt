@@ -2,3 +2,5 @@ pub mod Probes
 pub mod Words
 pub mod Implications
 pub mod Meaning
+pub mod ByWords
+pub mod Sizes

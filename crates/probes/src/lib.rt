@@ -1,2 +1,3 @@
 // The implications of probes: what a probed colour of a cell is found to imply, as clauses.
+pub mod count;
 pub mod read;

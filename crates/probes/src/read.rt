@@ -6,12 +6,11 @@ use refusals::Answer;
 use refusals::Refusal;
 ghost use mathlib.Core.Path.{_≡_};
 ghost use Prim.Native.Nat.{_+_, _^_, _<_};
-ghost use lib.Dec.{ltb};
 ghost use lib.ListN.{length};
 ghost use Rattle.refusals.specs.Told.{told};
-ghost use Rattle.refusals.specs.Verdict.{refuse};
 ghost use Rattle.puzzles.specs.Walk.{outcome, times};
-ghost use Rattle.probes.specs.Probes.{readClaim, listed, isColor, readProbe, readProbes, walked};
+ghost use Rattle.probes.specs.Probes.{readClaim, listed, isColor, readProbe, readProbes};
+ghost use Rattle.probes.specs.ByWords.{checksOn};
 
 fn read_claim(width: usize, height: usize, part: &[u32], at: usize) -> Answer
     requires { ⌜ at + length (now part) < 2 ^ 63 ⌝ }
@@ -118,7 +117,7 @@ fn read_probes(width: usize, height: usize, colors: u32, probe: &[u32]) -> Answe
 
 // Document 01's order: 20, the walk, 11; and else how many words there are.
 pub fn check_probes(width: usize, height: usize, colors: u32, probe: &[u32]) -> Answer
-    ensures { λ r. ⌜ told r ≡ refuse (ltb 1048576 (length (now (probe .entry)))) 20 (length (now (probe .entry))) (walked (readProbes width height colors (now (probe .entry)))) ⌝ }
+    ensures { λ r. ⌜ told r ≡ checksOn width height colors (now (probe .entry)) ⌝ }
 {
     if 1_048_576 < probe.len() {
         return Answer::Refused(Refusal::TooManyProbeWords(probe.len()));
