@@ -8,11 +8,9 @@ use lib.ListN.{length}
 use borrow.Author.Tests.{ltb-false}
 use Rattle.refusals.specs.Verdict.{accepted}
 use Rattle.refusals.proofs.Answering.{refuse-accepted}
-use Rattle.puzzles.specs.Puzzle.{Puzzle, width, height}
-use Rattle.puzzles.specs.Checks.{colors}
 use Rattle.puzzles.specs.Walk.{Walk, got, stop}
 use Rattle.puzzles.proofs.Readers.{Each}
-use Rattle.probes.specs.Probes.{Probe, readProbes, walked, probesOf, probes, probeChecks}
+use Rattle.probes.specs.Probes.{Probe, readProbes, walked, probesOf}
 use Rattle.probes.specs.ByWords.{checksOn}
 use Rattle.probes.specs.Words.{probesWords}
 use Rattle.probes.proofs.ProbeReaders.{FineProbe, noProbe, probes-reader}

@@ -6,3 +6,5 @@ pub mod ProbesMeaning
 pub mod ProbePlaces
 pub mod ProbeSizes
 pub mod Counting
+pub mod CellClauses
+pub mod ProbeClauses

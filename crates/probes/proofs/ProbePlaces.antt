@@ -8,10 +8,10 @@ use native.Mathlib.Nat.{add-assoc}
 use native.Mathlib.Numerals.{add-one}
 use lib.ListN.{length, take, drop, getD, length-append, length-drop}
 use lib.Seq.{drop-cons, drop-at, drop-drop, take-at, getD-drop, getD-append-add, length-take-le}
-use Rattle.puzzles.proofs.Readers.{Each}
+use Rattle.boards.specs.declared.board.Board.{Board}
 use Rattle.probes.specs.Probes.{Claim, Probe, isColor}
 use Rattle.probes.specs.Words.{claimAt, claimWords, claimsWords, probeWords, probesWords}
-use Rattle.probes.specs.ByWords.{placeAt, wordsAt}
+use Rattle.probes.specs.ByWords.{ProbeOnBoard, placeAt, wordsAt}
 use Rattle.probes.proofs.ProbeReaders.{FineProbe, noClaim, noProbe}
 use Rattle.probes.proofs.AcceptedProbes.{Accepted, heldIn}
 
@@ -132,3 +132,18 @@ module _ {w h K : ℕ} {us : List ℕ} (A : Accepted w h K us) {l i : ℕ} (at :
 
     pub slice-known : isColor K (getD slice 2 0) ≡ true
     slice-known = rw (slice-is, here .words-are) (unfold probeWords in here .fine .known)
+
+    pub slice-on-board : (b : Board) → b .width ≡ w → b .height ≡ h → ProbeOnBoard b slice
+    unfolding probeWords
+    slice-on-board b p q =
+        let F = here .fine in
+        let qs = here .probe .impacts in
+        rw (slice-is, here .words-are)
+        (record {
+          long = omega arith;
+          premise = (omega (arith, F .premise .in-column), omega (arith, F .premise .in-row));
+          impacts = λ j g.
+              let f = F .impacts j (omega (arith, claims-many qs)) in
+              let e = claims-at qs j (omega (arith, claims-many qs)) in
+              (omega (arith, f .in-column, ap (λ (c : Claim). c .x) e), omega (arith, f .in-row, ap (λ (c : Claim). c .y) e));
+        })

@@ -1,7 +1,7 @@
 -- How many clauses and words a probe's impacts have.
 use mathlib.Core.Path.{_≡_, refl, sym, ap, _∙_}
 use mathlib.Core.Bool.{Bool, true, false, true≢false, cond}
-use mathlib.Core.List.{List, [], _∷_, _++_, map}
+use mathlib.Core.List.{List, [], _∷_, _++_}
 use Prim.Native.Nat.{ℕ, suc, _+_, _*_, _/_, _^_, _≤_, _<_}
 use native.Mathlib.Omega.{arith}
 use native.Mathlib.Nat.{mul-one, mul-add, mul-comm, mul-le-mul-left}
@@ -15,7 +15,7 @@ use Rattle.lists.specs.Each.{each, when, sum}
 use Rattle.lists.proofs.Parts.{each-most}
 use Rattle.lists.proofs.Sums.{sum-same, sum-constant, sum-most, length-each}
 use Rattle.literals.specs.Literals.{positive, negative}
-use Rattle.sections.specs.Sections.{Clause, clausesWords, literals, atLeastOne}
+use Rattle.sections.specs.Sections.{Clause, clausesWords, atLeastOne}
 use Rattle.sections.proofs.ClauseLists.{clauses-length}
 use Rattle.sections.proofs.Rows.{least-length}
 use Rattle.bits.specs.Bits.{bit}
@@ -30,7 +30,7 @@ use Rattle.probes.specs.declared.count.Size.{Size}
 use Rattle.probes.specs.Probes.{isColor}
 use Rattle.probes.specs.Words.{claimAt}
 use Rattle.probes.specs.Implications.{premiseOf, implied, impactOf}
-use Rattle.probes.specs.ByWords.{firstOf, premiseIn, impactIn, ofImpacts, ofProbe}
+use Rattle.probes.specs.ByWords.{firstOf, premiseIn, ofImpacts, ofProbe}
 use Rattle.probes.specs.Sizes.{impactCount, impactsCount, Sized}
 
 -- ---- the colours of a set that are c
@@ -84,12 +84,12 @@ impact-most K c = cases (eqb c 0) (bit K c)
     cases false false = omega arith
 
 -- the loop that adds them up
-pub impacts-first : (K : ℕ) (ws : List ℕ) → Summing (length ws / 3) 31 (λ j. impactCount K (getD ws (3 * j + 2) 0)) 0 0
-impacts-first K ws = summing-first (length ws / 3) 31 _ (λ j _. impact-most K (getD ws (3 * j + 2) 0))
+pub counts-first : (K : ℕ) (ws : List ℕ) → Summing (length ws / 3) 31 (λ j. impactCount K (getD ws (3 * j + 2) 0)) 0 0
+counts-first K ws = summing-first (length ws / 3) 31 _ (λ j _. impact-most K (getD ws (3 * j + 2) 0))
 
-pub impacts-done : (K : ℕ) (ws : List ℕ) {total j : ℕ} → Summing (length ws / 3) 31 (λ j. impactCount K (getD ws (3 * j + 2) 0)) total j → length ws / 3 ≤ j → total ≡ impactsCount K ws
+pub counts-done : (K : ℕ) (ws : List ℕ) {total j : ℕ} → Summing (length ws / 3) 31 (λ j. impactCount K (getD ws (3 * j + 2) 0)) total j → length ws / 3 ≤ j → total ≡ impactsCount K ws
 unfolding impactsCount
-impacts-done K ws S h = summing-done S h
+counts-done K ws S h = summing-done S h
 
 -- ---- of a premise
 

@@ -10,7 +10,7 @@ use lib.ListN.{length, take, drop, getD, length-drop}
 use lib.Seq.{drop-drop, getD-drop}
 use borrow.Author.Tests.{le-leb, lt-leb, lt-ltb, le-ltb}
 use Rattle.lists.proofs.Writing.{tail-is}
-use Rattle.refusals.specs.Verdict.{Verdict, accepted, refused, refuse}
+use Rattle.refusals.specs.Verdict.{Verdict, accepted, refused}
 use Rattle.refusals.specs.Told.{told}
 use Rattle.refusals.specs.declared.Refusal.{Refusal}
 use Rattle.refusals.specs.declared.Answer.{Answer}

@@ -1,10 +1,12 @@
 -- The clauses of probes, by the numbers of a board and by accepted probe words.
-use mathlib.Core.List.{List}
-use Prim.Native.Nat.{ℕ, zero, suc, _+_, _-_, _*_, _/_, _<_}
-use lib.Dec.{ltb}
+use mathlib.Core.Bool.{cond}
+use mathlib.Core.List.{List, [], _∷_}
+use Prim.Native.Nat.{ℕ, zero, suc, _+_, _-_, _*_, _/_, _≤_, _<_}
+use lib.Dec.{eqb, ltb}
 use lib.ListN.{length, take, drop, getD}
-use Rattle.lists.specs.Each.{each}
+use Rattle.lists.specs.Each.{each, when}
 use Rattle.refusals.specs.Verdict.{Verdict, refuse}
+use Rattle.literals.specs.Literals.{positive, negative}
 use Rattle.sections.specs.Sections.{Clause}
 use Rattle.boards.specs.declared.board.Board.{Board}
 use Rattle.probes.specs.Probes.{Claim, readProbes, walked}
@@ -17,9 +19,22 @@ checksOn w h K us = refuse (ltb 1048576 (length us)) 20 (length us) (walked (rea
 
 -- ---- of the words of one probe
 
+-- what a premise of colour c says of the variable u of colour d: blank, it; that colour, it is negated; else nothing
+unfoldable pub premiseAt : ℕ → ℕ → ℕ → Clause
+premiseAt c d u = cond (eqb c 0) (positive u ∷ []) (when (eqb d c) (negative u ∷ []))
+
 -- the cell is on the board
 abbrev pub OnBoard : Board → Claim → Type 0
 OnBoard b q = (q .x < b .width) × (q .y < b .height)
+
+-- each claim of three words, and each of a probe's words
+abbrev pub AllOnBoard : Board → List ℕ → Type 0
+AllOnBoard b ws = (j : ℕ) → j < length ws / 3 → OnBoard b (claimAt ws (3 * j))
+
+pub record ProbeOnBoard (b : Board) (ws : List ℕ) : Type 0 where
+  pub long : 4 ≤ length ws
+  pub premise : OnBoard b (claimAt ws 0)
+  pub impacts : AllOnBoard b (drop 4 ws)
 
 -- its first variable, on a board of k colours
 abbrev pub firstOf : Board → ℕ → Claim → ℕ
