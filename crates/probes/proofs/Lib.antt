@@ -8,3 +8,4 @@ pub mod ProbeSizes
 pub mod Counting
 pub mod CellClauses
 pub mod ProbeClauses
+pub mod Calling

@@ -4,7 +4,7 @@ use boards::board::Board;
 use lists::wide;
 ghost use mathlib.Core.Path.{_≡_};
 ghost use mathlib.Core.Bool.{true};
-ghost use Prim.Native.Nat.{ℕ, _≤_};
+ghost use Prim.Native.Nat.{ℕ, _≤_, _<_};
 ghost use lib.ListN.{length, getD};
 ghost use Rattle.refusals.specs.Verdict.{accepted};
 ghost use Rattle.numbering.specs.Variables.{palette};
@@ -67,6 +67,7 @@ pub fn count_probes(board: Board, k: usize, probe: &[u32]) -> Size
     requires { ⌜ ((n : ℕ) × (accepted n ≡ checksOn (board .width) (board .height) (board .colors) (now probe))) ⌝ }
     requires { ⌜ k ≡ length (palette (board .colors)) ⌝ }
     ensures { λ r. ⌜ Sized (ofProbes board (palette (board .colors)) (now (probe .entry))) r ⌝ }
+    ensures { λ r. ⌜ (r .clauses < 2147483648) × (r .words < 2147483648) ⌝ }
 {
     let mut clauses = 0;
     let mut words = 0;

@@ -1,9 +1,9 @@
 use mathlib.Core.Path.{_≡_}
+use Rattle.probes.proofs.AcceptedProbes.{accepted-probes}
+use Rattle.probes.proofs.Counting.{Counting, counting-first, counting-next, counting-done, counted-most}
 use native.Mathlib.Omega.{arith}
 use Prim.Native.Nat.{_-_}
 use lib.ListN.{getD}
-use Rattle.probes.proofs.AcceptedProbes.{accepted-probes}
-use Rattle.probes.proofs.Counting.{Counting, counting-first, counting-next, counting-done}
 use Rattle.probes.proofs.ProbePlaces.{first-is, count-within, next-within, slice-length, slice-known}
 use borrow.Author.Needs.{needs}
 use Rattle.probes.proofs.count.count_probes.Statement.{statement}
@@ -23,7 +23,7 @@ count-probes-spec =
     μ-loop
     (λ c. first-is (accepted-probes (c .before .before .args .board .width) (c .before .before .args .board .height) (c .before .before .args .board .colors) (c .before .before .args .probe .now) (c .before .before .pre .0 .1)) .0)
     (λ c κs. search needs)
-    (λ c. (c .wide .ensures, counting-first _ _))
+    (λ c. (c .wide .ensures, counting-first _ _ (omega (arith, first-is (accepted-probes (c .before .before .before .args .board .width) (c .before .before .before .args .board .height) (c .before .before .before .args .board .colors) (c .before .before .before .args .probe .now) (c .before .before .before .pre .0 .1))))))
     (λ c. omega (arith, count-within (accepted-probes (c .before .before .before .before .before .args .board .width) (c .before .before .before .before .before .args .board .height) (c .before .before .before .before .before .args .board .colors) (c .before .before .before .before .before .args .probe .now) (c .before .before .before .before .before .pre .0 .1)) (c .before .loop .inv .1 .place-is) (omega (arith, c .before .loop .inv .0, c .loop-test .taken))))
     (λ c. omega (arith, count-within (accepted-probes (c .before .before .before .before .before .args .board .width) (c .before .before .before .before .before .args .board .height) (c .before .before .before .before .before .args .board .colors) (c .before .before .before .before .before .args .probe .now) (c .before .before .before .before .before .pre .0 .1)) (c .before .loop .inv .1 .place-is) (omega (arith, c .before .loop .inv .0, c .loop-test .taken))))
     (λ c. omega (arith, count-within (accepted-probes (c .before .before .before .before .before .args .board .width) (c .before .before .before .before .before .args .board .height) (c .before .before .before .before .before .args .board .colors) (c .before .before .before .before .before .args .probe .now) (c .before .before .before .before .before .pre .0 .1)) (c .before .loop .inv .1 .place-is) (omega (arith, c .before .loop .inv .0, c .loop-test .taken))))
@@ -41,4 +41,4 @@ count-probes-spec =
     (λ c. search needs)
     (λ c. search needs)
     (λ c. (c .before .before .before .before .before .before .before .loop .inv .0, (counting-next (c .before .before .before .before .before .before .before .loop .inv .1) (omega arith) (accepted-probes (c .before .before .before .before .before .before .before .before .before .before .before .args .board .width) (c .before .before .before .before .before .before .before .before .before .before .before .args .board .height) (c .before .before .before .before .before .before .before .before .before .before .before .args .board .colors) (c .before .before .before .before .before .before .before .before .before .before .before .args .probe .now) (c .before .before .before .before .before .before .before .before .before .before .before .pre .0 .1)) (omega (arith, c .before .before .before .before .before .before .before .loop .inv .0, c .before .before .before .before .before .before .loop-test .taken)) (c .before .before .before .before .wide2 .ensures) (c .before .before .count-probe .ensures))))
-    (λ c. counting-done (c .before .loop .inv .1) (omega (arith, c .before .loop .inv .0))))
+    (λ c. (counting-done (c .before .loop .inv .1) (omega (arith, c .before .loop .inv .0)), counted-most (c .before .loop .inv .1) ((accepted-probes (c .before .before .before .before .before .args .board .width) (c .before .before .before .before .before .args .board .height) (c .before .before .before .before .before .args .board .colors) (c .before .before .before .before .before .args .probe .now) (c .before .before .before .before .before .pre .0 .1)) .few))))
