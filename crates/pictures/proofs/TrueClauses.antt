@@ -104,7 +104,7 @@ module _ (β : Assignment) where
   some-append [] b = refl
   some-append (l ∷ a) b = rw (some-append a b) (sym (or-assoc (literalTrue β l) (clauseTrue β a) (clauseTrue β b)))
 
-  either-means : (a b : Clause) {P Q : Type 0} → Holds β a ↔ P → Holds β b ↔ Q → Holds β (a ++ b) ↔ (P ⊎ Q)
+  pub either-means : (a b : Clause) {P Q : Type 0} → Holds β a ↔ P → Holds β b ↔ Q → Holds β (a ++ b) ↔ (P ⊎ Q)
   either-means a b {P} {Q} d e = rw (some-append a b) (cases (clauseTrue β a) (clauseTrue β b) d e)
     where
       cases : (x y : Bool) → (x ≡ true) ↔ P → (y ≡ true) ↔ Q → ((x || y) ≡ true) ↔ (P ⊎ Q)

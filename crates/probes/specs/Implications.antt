@@ -7,7 +7,7 @@ use lib.Dec.{eqb}
 use lib.ListN.{length, getD}
 use Rattle.lists.specs.Each.{each, when}
 use Rattle.literals.specs.Literals.{positive, negative}
-use Rattle.sections.specs.Sections.{Clause, atLeastOne, sectionWords}
+use Rattle.sections.specs.Sections.{Clause, atLeastOne}
 use Rattle.puzzles.specs.Puzzle.{Puzzle}
 use Rattle.puzzles.specs.Checks.{colors}
 use Rattle.numbering.specs.Variables.{palette, cellFirst}

@@ -1,3 +1,6 @@
 pub mod Probes
+pub mod Words
 pub mod Implications
 pub mod Meaning
+pub mod ByWords
+pub mod Sizes

@@ -21,7 +21,7 @@ use Rattle.puzzles.specs.Checks.{sectionsOf}
 use Rattle.puzzles.proofs.Walking.{outcome-got}
 use Rattle.puzzles.proofs.Readers.{Reader, FineLines, FineCells}
 
-stopped : {A : Type 0} (w : Walk A) {k p : ℕ} → outcome w ≡ refused k p → w ≡ stop k p
+pub stopped : {A : Type 0} (w : Walk A) {k p : ℕ} → outcome w ≡ refused k p → w ≡ stop k p
 stopped (got a i ws) e = let z : _≡_ {A = ℕ} 0 1 = cc in absurd (omega arith)
 stopped (stop k p) e = cc
 

@@ -22,7 +22,7 @@ pub record Reads {A : Type 0} (W : A → List ℕ) (Fine : A → Type 0) (i : �
   pub place-is : j ≡ i + length (W a)
   pub fine : Fine a
 
-reads-as : {A : Type 0} {W : A → List ℕ} {Fine : A → Type 0} {i j k : ℕ} {ws us vs : List ℕ} {a b : A} → got a j us ≡ got b k vs → Reads W Fine i ws a j us → Reads W Fine i ws b k vs
+pub reads-as : {A : Type 0} {W : A → List ℕ} {Fine : A → Type 0} {i j k : ℕ} {ws us vs : List ℕ} {a b : A} → got a j us ≡ got b k vs → Reads W Fine i ws a j us → Reads W Fine i ws b k vs
 reads-as e r = let s = same-got e in rw (← s .0, ← s .1, ← s .2) r
 
 pub record Reader {A : Type 0} (f : ℕ → List ℕ → Walk A) (W : A → List ℕ) (Fine : A → Type 0) : Type 0 where

@@ -88,11 +88,11 @@ module _ {A : Type 0} where
 -- ---- a word
 
 module _ {A : Type 0} (i : ℕ) (f : ℕ → List ℕ → Walk A) where
-  word-none : (ws : List ℕ) → length ws ≡ 0 → word i ws f ≡ stop 1 i
+  pub word-none : (ws : List ℕ) → length ws ≡ 0 → word i ws f ≡ stop 1 i
   word-none [] e = refl
   word-none (x ∷ ws) e = absurd (omega arith)
 
-  word-some : (ws : List ℕ) → (length ws ≡ 0 → ⊥) → word i ws f ≡ f (getD ws 0 0) (drop 1 ws)
+  pub word-some : (ws : List ℕ) → (length ws ≡ 0 → ⊥) → word i ws f ≡ f (getD ws 0 0) (drop 1 ws)
   word-some [] e = absurd (e refl)
   word-some (x ∷ ws) e = refl
 

@@ -1,0 +1,18 @@
+use Rattle.probes.proofs.ProbeWalk.{list-missing, list-on}
+use borrow.Author.Needs.{needs}
+use Rattle.probes.proofs.read.read_impacts.Statement.{statement}
+use Rattle.probes.proofs.read.read_impacts.Tie as tie
+
+pub read-impacts-spec : {M : Type 1} → statement M
+read-impacts-spec =
+    tie.close
+    (tie.spec
+    (λ c. list-missing _ _ _ (c .if1 .taken))
+    (λ c. search needs)
+    (λ c κs. search needs)
+    (λ c. search needs)
+    (λ c. search needs)
+    (λ c. search needs)
+    (λ c. search needs)
+    (λ c κs. search needs)
+    (λ c. list-on _ _ _ (c .before .before .before .before .if1 .left) (c .before .before .wide .ensures) (c .read-claims .ensures)))
