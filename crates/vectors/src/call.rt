@@ -1,5 +1,6 @@
 // A call of an entry, with the length of the buffer that it is lent and its other numbers.
 use crate::entry::Entry;
+use crate::model;
 use crate::number::at_most;
 use crate::number::index;
 use crate::puzzle;
@@ -28,6 +29,9 @@ pub fn call(entry: Entry, room: u32, args: &[u32]) {
         Entry::Transpose => transpose(index(room), args, &bytes, n),
         Entry::Clauses => clauses(index(room), args),
         Entry::Counts => counts(index(room), args),
+        Entry::CheckModel => model::parted(entry, index(room), args),
+        Entry::Blocking => model::parted(entry, index(room), args),
+        Entry::Probes => model::parted(entry, index(room), args),
         _ => lend(entry, index(room), args, &bytes, n),
     }
 }
@@ -137,7 +141,7 @@ fn count(puzzle: &[u32], out: &mut [u64], room: usize)
     show_numbers(number, place, out, room);
 }
 
-fn as_bytes(words: &[u32], out: &mut [u8]) -> usize
+pub fn as_bytes(words: &[u32], out: &mut [u8]) -> usize
     ensures { λ r. ⌜ r ≤ length (now (out .entry)) ⌝ }
 {
     for i in 0..words.len() {

@@ -9,6 +9,9 @@ pub enum Entry {
     Transpose,
     Clauses,
     Counts,
+    CheckModel,
+    Blocking,
+    Probes,
     Puzzle,
     Unknown,
 }
@@ -40,6 +43,15 @@ pub fn named(name: &[u8]) -> Entry {
     }
     if check::same(name, b"counts") {
         return Entry::Counts;
+    }
+    if check::same(name, b"check_model") {
+        return Entry::CheckModel;
+    }
+    if check::same(name, b"blocking") {
+        return Entry::Blocking;
+    }
+    if check::same(name, b"probes") {
+        return Entry::Probes;
     }
     if check::same(name, b"puzzle") {
         return Entry::Puzzle;

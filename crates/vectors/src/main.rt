@@ -2,6 +2,7 @@
 // What must come out is stored, so that every number, place and word is compared, those that must stay untouched too.
 mod call;
 mod entry;
+mod model;
 mod number;
 mod puzzle;
 mod show;
@@ -29,6 +30,13 @@ fn input_buffer() -> [u8; 1048576]
     [0; 1048576]
 }
 
+// Room for one more number than a probe list may have, behind those of a puzzle.
+fn args_buffer() -> [u32; 1048832]
+    ensures { λ r. ⌜ 1048832 ≡ length r ⌝ }
+{
+    [0; 1048832]
+}
+
 fn answer_all(input: &[u8]) {
     let mut from = 0;
     while from < input.len() {
@@ -52,7 +60,7 @@ fn answer(line: &[u8]) {
     if name == line.len() {
         return;
     }
-    let mut args = [0u32; 25600];
+    let mut args = args_buffer();
     let n = numbers(&line[name + 1..], &mut args);
     pass(&line[0..name], &args, n);
 }
