@@ -254,7 +254,8 @@ static void small_models(void) {
     EVERY(1, 2, 1, 1, 2, 1, 1, 5, 1, 2, 1, 2, 1, 5, 2, 37, 37);
     EVERY(1, 2, 1, 1, 2, 1, 1, 5, 1, 2, 1, 2, 1, 5, 2, 36, 37);
     EVERY(0, 2, 1, 1, 2, 1, 1, 5, 1, 2, 1, 2, 1, 5, 2, 32, 37);
-    EVERY(1, 1, 2, 1, 31, 1, 3, 3, 1, 1, 3, 0, 1, 1, 31, 3, 9, 1, 0xFFFFFFFF);
+    EVERY(1, 1, 2, 1, 3, 1, 31, 3, 1, 1, 3, 0, 1, 1, 31, 3, 9, 1, 0xFFFFFFFF);
+    EVERY(0, 1, 2, 1, 31, 1, 3, 3, 1, 1, 3, 0, 1, 1, 31, 3, 9, 1, 0xFFFFFFFF);
 }
 
 /* Of random boards: the model of their picture, each byte changed, other lengths. */
