@@ -746,7 +746,7 @@ def random_model(r, words, cells):
     if kind < 0.6:
         for _ in range(r.choice([1, 1, 2, 3])):
             i = r.randrange(len(model))
-            model[i] = r.choice([1 - model[i], 1 - model[i], 1 - model[i], r.randrange(256)])
+            model[i] = r.choice([model[i] ^ 1] * 3 + [r.randrange(256)])
     if kind > 0.95:
         model = r.choice([model[1:], model + [0], []])
     return model
