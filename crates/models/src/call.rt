@@ -49,12 +49,13 @@ fn block(words: &[u32], table: &[u32], board: Board, model: &[u8], out: &mut [i3
     let Answer::Accepted(_) = checked else {
         return checked;
     };
+    let first = board.first;
     let n = board.width * board.height * k;
-    let count = count_true(model, board.first, n);
+    let count = count_true(model, first, n);
     if out.len() < 1 + count {
         return Answer::Refused(Refusal::OutputTooShort(1 + count));
     }
-    Answer::Accepted(write_blocking(model, board.first, n, count, out))
+    Answer::Accepted(write_blocking(model, first, n, count, out))
 }
 
 pub fn check_model(words: &[u32], model: &[u8], out: &mut [u8]) -> Answer
