@@ -1,0 +1,3 @@
+pub mod Walk
+pub mod Text
+pub mod Reading

@@ -1,0 +1,1 @@
+// Clause words as DIMACS text.
