@@ -1,1 +1,2 @@
 // Clause words as DIMACS text.
+pub mod digits;
