@@ -1,3 +1,4 @@
+use Rattle.dimacs.proofs.NumberText.{tens}
 use native.Mathlib.Omega.{arith}
 use Rattle.dimacs.proofs.PutDigits.{one-long, more-long, digits-few}
 use Prim.Native.Nat.{ℕ, _/_, _<_}
