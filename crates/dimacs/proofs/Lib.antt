@@ -1,2 +1,5 @@
 pub mod NumberText
 pub mod PutDigits
+pub mod Walking
+pub mod Readers
+pub mod Passing
