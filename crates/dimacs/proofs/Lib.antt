@@ -3,3 +3,4 @@ pub mod PutDigits
 pub mod Walking
 pub mod Readers
 pub mod Passing
+pub mod ReadBack

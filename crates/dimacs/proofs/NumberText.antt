@@ -79,17 +79,17 @@ unfolding valueFrom
 value-append n [] es = refl
 value-append n (d ∷ ds) es = value-append (10 * n + (d - 48)) ds es
 
-digits-value : (n : ℕ) → valueFrom 0 (digits n) ≡ n
+pub digits-value : (n : ℕ) → valueFrom 0 (digits n) ≡ n
 unfolding valueFrom
 digits-value n = by-tens (λ n. valueFrom 0 (digits n) ≡ n)
     (λ n h. rw (digits-one n h) (omega arith))
     (λ n h e. rw (digits-more n h, value-append, e) (omega (arith, tens n .whole)))
     n
 
-abbrev OnlyDigits : List ℕ → Type 0
+abbrev pub OnlyDigits : List ℕ → Type 0
 OnlyDigits ds = (i : ℕ) → i < length ds → (48 ≤ getD ds i 0) × (getD ds i 0 ≤ 57)
 
-digits-only : (n : ℕ) → OnlyDigits (digits n)
+pub digits-only : (n : ℕ) → OnlyDigits (digits n)
 digits-only n = by-tens (λ n. OnlyDigits (digits n))
     (λ n h. rw (digits-one n h) (λ i. elim i [ zero ↦ λ l. (omega arith, omega arith) | suc i ↦ λ l. absurd (omega arith) ]))
     (λ n h o. rw (digits-more n h) (λ i l. last (digits (n / 10)) (n % 10) (tens n .last) o i l))
