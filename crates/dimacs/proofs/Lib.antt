@@ -4,3 +4,7 @@ pub mod Walking
 pub mod Readers
 pub mod Passing
 pub mod ReadBack
+pub mod ClauseLines
+pub mod HeaderLine
+pub mod Ahead
+pub mod LineLoops

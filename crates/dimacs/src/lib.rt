@@ -1,4 +1,6 @@
 // Clause words as DIMACS text.
+pub mod count;
 pub mod digits;
 pub mod read;
 pub mod word;
+pub mod write;
