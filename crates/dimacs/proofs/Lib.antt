@@ -8,3 +8,5 @@ pub mod ClauseLines
 pub mod HeaderLine
 pub mod Ahead
 pub mod LineLoops
+pub mod Accepting
+pub mod WordChecks

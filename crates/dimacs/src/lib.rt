@@ -1,4 +1,5 @@
 // Clause words as DIMACS text.
+pub mod call;
 pub mod count;
 pub mod digits;
 pub mod read;
