@@ -8,10 +8,10 @@ ghost use Rattle.dimacs.specs.Text.{digit, digits};
 pub fn count_digits(n: usize) -> usize
     ensures { λ r. ⌜ r ≡ length (digits n) ⌝ }
 {
-    if n < 10 {
-        return 1;
+    if 10 <= n {
+        return count_digits(n / 10) + 1;
     }
-    count_digits(n / 10) + 1
+    1
 }
 
 // The byte of one digit.

@@ -32,7 +32,7 @@ pub +count-digits-spec : {M : Type 1} → statement M
 )
     (count-digits-at t)
     count-digits.Post
-    (λ c. one-long _ (c .if1 .taken))
-    (λ c κs. (rw (← (c .before .pre .0)) (tens _ .falls (c .if1 .left)), tt))
+    (λ c κs. (rw (← (c .before .pre .0)) (tens _ .falls (c .if1 .taken)), tt))
     (λ c. omega (arith, c .count-digits .ensures, digits-few (c .before .before .args .n / 10) (omega arith)))
-    (λ c. omega (arith, c .count-digits .ensures, more-long (c .before .before .args .n) (c .before .if1 .left)))
+    (λ c. omega (arith, c .count-digits .ensures, more-long (c .before .before .args .n) (c .before .if1 .taken)))
+    (λ c. one-long _ (c .if1 .left))
