@@ -23,6 +23,15 @@ abbrev put-number-below : ℕ → In 1 put-number-kinds.ps
 put-number-below t =
     and 1 put-number-kinds.ps (falls 1 put-number-kinds.ps _<_ μ-put-number t) put-number.Pre
 
+-- on its own, so that an edit of the order is refused here too
+returns-more : (t : ℕ) → put-number-lts.Need-returns-2 (
+  digit-reads.Asked,
+  digit-reads.Learnt,
+  put-number-below t,
+  put-number.Post,
+) (put-number-at t) put-number.Post
+returns-more t c = more-wrote (c .before .before .before .before .before .before .before .args .n) (omega arith) _ _ (c .before .before .before .before .before .before .before .pre .1) (c .before .before .before .put-number .ensures) (c .digit2 .ensures)
+
 pub +put-number-spec : {M : Type 1} → statement M
 +put-number-spec = close μ-put-number λ t. put-number-lts.spec (
   digit-reads.Asked,
@@ -43,4 +52,4 @@ pub +put-number-spec : {M : Type 1} → statement M
     (λ c. last-room (c .before .before .before .before .before .before .before .args .n) (omega arith) _ _ (c .before .before .before .before .before .before .before .pre .1) (c .before .before .before .put-number .ensures))
     (λ c. omega (arith, last-room (c .before .before .before .before .before .before .before .args .n) (omega arith) _ _ (c .before .before .before .before .before .before .before .pre .1) (c .before .before .before .put-number .ensures)))
     (λ c. search needs)
-    (λ c. more-wrote (c .before .before .before .before .before .before .before .args .n) (omega arith) _ _ (c .before .before .before .before .before .before .before .pre .1) (c .before .before .before .put-number .ensures) (c .digit2 .ensures))
+    (returns-more t)
