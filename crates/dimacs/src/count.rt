@@ -10,6 +10,7 @@ ghost use lib.ListN.{length};
 ghost use Rattle.dimacs.specs.Text.{literalText, clauseText};
 ghost use Rattle.dimacs.specs.Lines.{AreVariables, Formed, linesOf, Sized, header};
 
+// Of the lines behind the first.
 pub struct Size {
     pub clauses: usize,
     pub bytes: usize,
@@ -25,6 +26,7 @@ fn count_literal(l: Literal) -> usize
     n
 }
 
+// A space behind each literal, then 0 and a newline.
 fn count_clause(clause: &[i32]) -> usize
     requires { ⌜ AreVariables (now clause) × (length (now clause) ≤ 1073741824) ⌝ }
     ensures { λ r. ⌜ r ≡ length (clauseText (now (clause .entry))) ⌝ }
@@ -36,6 +38,7 @@ fn count_clause(clause: &[i32]) -> usize
     bytes + 2
 }
 
+// Where a section has no clause left, the next word counts those of another.
 pub fn count_lines(words: &[i32]) -> Size
     requires { ⌜ Formed (now words) ⌝ }
     ensures { λ r. ⌜ Sized (linesOf (now (words .entry))) r ⌝ }

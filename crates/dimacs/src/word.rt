@@ -1,4 +1,4 @@
-// Single words: counts, and literals of words that were read before.
+// Single words: counts, and the literals of words that were read before.
 use literals::Literal;
 use literals::Read;
 ghost use mathlib.Core.Path.{_≡_};
@@ -6,12 +6,14 @@ ghost use mathlib.Core.Bool.{false};
 ghost use lib.IntN.{natAbs};
 ghost use Rattle.literals.specs.Literals.{IsVariable, variable, isNegative};
 
+// A word that can be no count.
 pub fn is_negative(word: i32) -> bool
     ensures { λ r. ⌜ r ≡ isNegative word ⌝ }
 {
     word < 0
 }
 
+// The count that a word says.
 pub fn count(word: i32) -> usize
     requires { ⌜ isNegative word ≡ false ⌝ }
     ensures { λ r. ⌜ r ≡ natAbs word ⌝ }
@@ -26,7 +28,7 @@ pub fn literal(word: i32) -> Literal
 {
     let read = Literal::read(word, Literal::LARGEST);
     let Read::Good(literal) = read else {
-        // Never reached: the word is a literal of the largest variable's.
+        // Not reached: the word was read before, with no more variables.
         return Literal::positive(1);
     };
     literal

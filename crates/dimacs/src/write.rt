@@ -10,6 +10,7 @@ ghost use Rattle.lists.specs.Wrote.{Wrote};
 ghost use Rattle.dimacs.specs.Text.{literalText, clauseText, clausesText};
 ghost use Rattle.dimacs.specs.Lines.{AreVariables, Formed, linesOf, header};
 
+// Its sign and its variable.
 fn put_literal(l: Literal, out: &mut [u8], at: usize) -> usize
     requires { ⌜ at + length (literalText (l .word)) ≤ length (now out) ⌝ }
     ensures { λ r. ⌜ Wrote (literalText (l .word)) (now (out .entry)) at (now (out .exit)) r ⌝ }
@@ -37,6 +38,7 @@ fn put_clause(clause: &[i32], out: &mut [u8], at: usize) -> usize
     to + 2
 }
 
+// The walk of `count_lines`.
 pub fn put_lines(words: &[i32], out: &mut [u8], at: usize) -> usize
     requires { ⌜ Formed (now words) × (at + length (clausesText (linesOf (now words))) ≤ length (now out)) ⌝ }
     ensures { λ r. ⌜ Wrote (clausesText (linesOf (now (words .entry)))) (now (out .entry)) at (now (out .exit)) r ⌝ }
