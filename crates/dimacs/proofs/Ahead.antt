@@ -1,0 +1,169 @@
+-- The second walk, over words among which none is wrong: what is ahead of it, and what a turn finds there.
+use mathlib.Core.Path.{_≡_, refl, sym, ap, _∙_}
+use mathlib.Core.Bool.{false}
+use mathlib.Core.List.{List, [], _∷_, _++_, append-assoc}
+use Prim.Native.Nat.{ℕ, zero, suc, _+_, _-_, _≤_, _<_}
+use native.Mathlib.Omega.{arith}
+use lib.IntN.{ℤ, pos, natAbs}
+use lib.ListN.{length, take, drop, getD, length-append, length-drop, drop-of-length-le}
+use lib.Seq.{take-at, drop-at, drop-drop}
+use Rattle.lists.proofs.Dropping.{drop-one}
+use Rattle.literals.specs.Literals.{isNegative}
+use Rattle.sections.specs.Sections.{Clause, clauseWords, clausesWords, sectionWords, sectionsWords}
+use Rattle.dimacs.specs.Walk.{together}
+use Rattle.dimacs.specs.Lines.{AreVariables, SectionFine, Formed, linesFrom, linesOf}
+
+-- ---- the lines of sections' words are their clauses
+
+-- with cs left in the section that the loop is in
+abbrev aheadWords : List Clause → List (List Clause) → List ℤ
+aheadWords cs ss = clausesWords cs ++ sectionsWords ss
+
+next-clause : (c : Clause) (cs : List Clause) (ss : List (List Clause)) → aheadWords (c ∷ cs) ss ≡ pos (length c) ∷ (c ++ aheadWords cs ss)
+unfolding clausesWords clauseWords
+next-clause c cs ss = ap (λ (l : List ℤ). pos (length c) ∷ l) (append-assoc c (clausesWords cs) (sectionsWords ss))
+
+next-section : (s : List Clause) (ss : List (List Clause)) → aheadWords [] (s ∷ ss) ≡ pos (length s) ∷ aheadWords s ss
+unfolding clausesWords sectionsWords sectionWords
+next-section s ss = refl
+
+none-ahead : aheadWords [] [] ≡ []
+unfolding clausesWords sectionsWords
+none-ahead = refl
+
+lines-ahead : (k : ℕ) (cs : List Clause) (ss : List (List Clause)) → length (aheadWords cs ss) ≤ k → linesFrom k (length cs) (aheadWords cs ss) ≡ cs ++ together ss
+unfolding linesFrom together
+lines-ahead zero [] [] h = refl
+lines-ahead (suc k) [] [] h = rw none-ahead
+lines-ahead zero [] (s ∷ ss) h = absurd (omega (arith, ap length (next-section s ss)))
+lines-ahead zero (c ∷ cs) ss h = absurd (omega (arith, ap length (next-clause c cs ss)))
+lines-ahead (suc k) [] (s ∷ ss) h = rw (next-section s ss) (lines-ahead k s ss (omega (arith, ap length (next-section s ss))))
+lines-ahead (suc k) (c ∷ cs) ss h =
+    rw (
+      next-clause c cs ss,
+      take-at c (aheadWords cs ss) (length c) refl,
+      drop-at c (aheadWords cs ss) (length c) refl,
+      lines-ahead k cs ss (omega (arith, ap length (next-clause c cs ss), length-append c (aheadWords cs ss))),
+    )
+
+pub lines-are : (ss : List (List Clause)) → linesOf (sectionsWords ss) ≡ together ss
+unfolding linesOf clausesWords
+lines-are ss = lines-ahead (length (sectionsWords ss)) [] ss (omega arith)
+
+-- ---- what is ahead at place i, with `left` clauses in the section that the loop is in
+
+pub record Ahead (ws : List ℤ) (i left : ℕ) (rest : List Clause) : Type 0 where
+  pub begun : List Clause
+  pub behind : List (List Clause)
+  pub within : i ≤ length ws
+  pub words-are : drop i ws ≡ aheadWords begun behind
+  pub left-is : left ≡ length begun
+  pub rest-is : rest ≡ begun ++ together behind
+  pub begun-fine : SectionFine begun
+  pub behind-fine : (s : ℕ) → s < length behind → SectionFine (getD behind s [])
+
+pub ahead-first : {ws : List ℤ} → Formed ws → Ahead ws 0 0 (linesOf ws)
+unfolding clausesWords
+ahead-first F = record {
+  begun = [];
+  behind = F .sections;
+  within = omega arith;
+  words-are = F .words-are;
+  left-is = refl;
+  rest-is = ap linesOf (F .words-are) ∙ lines-are (F .sections);
+  begun-fine = λ s h. absurd (omega arith);
+  behind-fine = F .fine;
+}
+
+-- a clause stands behind its count at place i
+abbrev pub lineAt : List ℤ → ℕ → ℕ → Clause
+lineAt ws i n = take (i + 1 + n - (i + 1)) (drop (i + 1) ws)
+
+pub record Line (ws : List ℤ) (i left : ℕ) (rest : List Clause) (n : ℕ) : Type 0 where
+  pub within : i + 1 + n ≤ length ws
+  pub long : length (lineAt ws i n) ≡ n
+  pub fine : AreVariables (lineAt ws i n)
+  pub more : List Clause
+  pub rest-is : rest ≡ lineAt ws i n ∷ more
+  pub ahead : Ahead ws (i + 1 + n) (left - 1) more
+
+module _ {ws : List ℤ} {i left : ℕ} {rest : List Clause} (A : Ahead ws i left rest) where
+  module _ (h : i < length ws) where
+    here : getD ws i (pos 0) ∷ drop (i + 1) ws ≡ aheadWords (A .begun) (A .behind)
+    here = sym (drop-one (pos 0) ws i h) ∙ A .words-are
+
+    -- the next word is a count
+    pub ahead-count : isNegative (getD ws i (pos 0)) ≡ false
+    ahead-count = go (A .begun) (A .behind) here
+      where
+        go : (cs : List Clause) (ss : List (List Clause)) → getD ws i (pos 0) ∷ drop (i + 1) ws ≡ aheadWords cs ss → isNegative (getD ws i (pos 0)) ≡ false
+        go [] [] w = absurd (omega (arith, ap length (w ∙ none-ahead)))
+        go [] (s ∷ ss) w = let t = w ∙ next-section s ss in let q : getD ws i (pos 0) ≡ pos (length s) = cc in rw q
+        go (c ∷ cs) ss w = let t = w ∙ next-clause c cs ss in let q : getD ws i (pos 0) ≡ pos (length c) = cc in rw q
+
+    module _ {z : ℤ} (w : z ≡ getD ws i (pos 0)) {n : ℕ} (e′ : n ≡ natAbs z) where
+      e : n ≡ natAbs (getD ws i (pos 0))
+      e = rw w at e′
+
+      -- of a section's clauses
+      pub ahead-section : left ≡ 0 → Ahead ws (i + 1) n rest
+      unfolding together
+      ahead-section o = go (A .begun) (A .behind) here (A .left-is) (A .rest-is) (A .behind-fine)
+        where
+          go : (cs : List Clause) (ss : List (List Clause)) → getD ws i (pos 0) ∷ drop (i + 1) ws ≡ aheadWords cs ss → left ≡ length cs → rest ≡ cs ++ together ss
+              → ((s : ℕ) → s < length ss → SectionFine (getD ss s [])) → Ahead ws (i + 1) n rest
+          go [] [] w l r f = absurd (omega (arith, ap length (w ∙ none-ahead)))
+          go [] (s ∷ ss) w l r f =
+              let t = w ∙ next-section s ss in
+              let q : getD ws i (pos 0) ≡ pos (length s) = cc in
+              record {
+                begun = s;
+                behind = ss;
+                within = omega arith;
+                words-are = cc;
+                left-is = e ∙ ap natAbs q;
+                rest-is = r;
+                begun-fine = f 0 (omega arith);
+                behind-fine = λ k g. f (suc k) (omega arith);
+              }
+          go (c ∷ cs) ss w l r f = absurd (omega arith)
+
+      -- of a clause's literals
+      pub ahead-line : (left ≡ 0 → ⊥) → Line ws i left rest n
+      ahead-line o = go (A .begun) here (A .left-is) (A .rest-is) (A .begun-fine)
+        where
+          go : (cs : List Clause) → getD ws i (pos 0) ∷ drop (i + 1) ws ≡ aheadWords cs (A .behind) → left ≡ length cs → rest ≡ cs ++ together (A .behind) → SectionFine cs → Line ws i left rest n
+          go [] w l r f = absurd (o l)
+          go (c ∷ cs) w l r f =
+              let t = w ∙ next-clause c cs (A .behind) in
+              let q : getD ws i (pos 0) ≡ pos (length c) = cc in
+              let d : drop (i + 1) ws ≡ c ++ aheadWords cs (A .behind) = cc in
+              let m : n ≡ length c = e ∙ ap natAbs q in
+              let at : length c ≡ i + 1 + n - (i + 1) = omega arith in
+              let p : lineAt ws i n ≡ c = rw d (take-at c (aheadWords cs (A .behind)) _ at) in
+              record {
+                within = omega (arith, ap length d, length-append c (aheadWords cs (A .behind)), length-drop (i + 1) ws);
+                long = ap length p ∙ sym m;
+                fine = rw p (f 0 (omega arith));
+                more = cs ++ together (A .behind);
+                rest-is = rw p r;
+                ahead = record {
+                  begun = cs;
+                  behind = A .behind;
+                  within = omega (arith, ap length d, length-append c (aheadWords cs (A .behind)), length-drop (i + 1) ws);
+                  words-are = sym (drop-drop n (i + 1) ws) ∙ rw (d, m) (drop-at c (aheadWords cs (A .behind)) (length c) refl);
+                  left-is = omega arith;
+                  rest-is = refl;
+                  begun-fine = λ k g. f (suc k) (omega arith);
+                  behind-fine = A .behind-fine;
+                };
+              }
+
+  -- nothing is
+  pub ahead-done : length ws ≤ i → rest ≡ []
+  ahead-done h = go (A .begun) (A .behind) (sym (drop-of-length-le ws h) ∙ A .words-are) (A .rest-is)
+    where
+      go : (cs : List Clause) (ss : List (List Clause)) → [] ≡ aheadWords cs ss → rest ≡ cs ++ together ss → rest ≡ []
+      go [] [] w r = unfold together in r
+      go [] (s ∷ ss) w r = absurd (omega (arith, ap length (w ∙ next-section s ss)))
+      go (c ∷ cs) ss w r = absurd (omega (arith, ap length (w ∙ next-clause c cs ss)))

@@ -1,0 +1,21 @@
+use borrow.Author.Tests.{lt-ltb, le-ltb}
+use Rattle.dimacs.proofs.WordChecks.{walk-refused, walk-left, walk-done}
+use borrow.Author.Needs.{needs}
+use Rattle.dimacs.proofs.call.check_words.Statement.{statement}
+use Rattle.dimacs.proofs.call.check_words.Tie as tie
+
+pub check-words-spec : {M : Type 1} → statement M
+check-words-spec =
+    tie.close
+    (tie.spec
+    (λ c. search needs)
+    (λ c. rw (lt-ltb _ _ (c .if1 .taken)))
+    (λ c. rw (le-ltb _ _ (c .before .if1 .left), lt-ltb _ _ (c .if2 .taken)))
+    (λ c. rw (le-ltb _ _ (c .before .before .if1 .left), le-ltb _ _ (c .before .if2 .left), lt-ltb _ _ (c .if3 .taken)))
+    (λ c. search needs)
+    (λ c κs. search needs)
+    (λ c. search needs)
+    (λ c. search needs)
+    (λ c. rw (le-ltb _ _ (c .before .before .before .before .before .if1 .left), le-ltb _ _ (c .before .before .before .before .if2 .left), le-ltb _ _ (c .before .before .before .if3 .left)) (walk-refused _ (c .enum-told .given .1) (c .before .before .read-sections .ensures)))
+    (λ c. rw (le-ltb _ _ (c .before .before .before .before .before .before .before .if1 .left), le-ltb _ _ (c .before .before .before .before .before .before .if2 .left), le-ltb _ _ (c .before .before .before .before .before .if3 .left)) (walk-left _ _ _ (c .before .before .read .given .1) (c .before .before .before .before .read-sections .ensures) (c .if4 .taken)))
+    (λ c. rw (le-ltb _ _ (c .before .before .before .before .before .before .before .if1 .left), le-ltb _ _ (c .before .before .before .before .before .before .if2 .left), le-ltb _ _ (c .before .before .before .before .before .if3 .left)) (walk-done _ _ _ (c .before .before .read .given .1) (c .before .before .before .before .read-sections .ensures) (c .if4 .left))))

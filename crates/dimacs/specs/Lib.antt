@@ -1,0 +1,4 @@
+pub mod Walk
+pub mod Text
+pub mod Reading
+pub mod Lines

@@ -1,0 +1,43 @@
+-- Clause words among which none is wrong, and the lines that a loop makes of them. It needs no number of sections: where the section that it is in
+-- has no clause left, the next word counts the clauses of another.
+use mathlib.Core.Path.{_≡_}
+use mathlib.Core.List.{List, [], _∷_, _++_}
+use Prim.Native.Nat.{ℕ, zero, suc, _≤_, _<_}
+use lib.IntN.{pos, natAbs, ℤ}
+use lib.ListN.{length, take, drop, getD}
+use Rattle.literals.specs.Literals.{IsVariable, variable}
+use Rattle.sections.specs.Sections.{Clause, sectionsWords}
+use Rattle.dimacs.specs.Text.{digits, space, newline, problem, clausesText}
+use Rattle.dimacs.specs.declared.count.Size.{Size}
+
+abbrev pub AreVariables : Clause → Type 0
+AreVariables c = (j : ℕ) → j < length c → IsVariable (variable (getD c j (pos 0)))
+
+abbrev pub SectionFine : List Clause → Type 0
+SectionFine cs = (i : ℕ) → i < length cs → AreVariables (getD cs i [])
+
+-- they are the words of sections, and no more
+pub record Formed (ws : List ℤ) : Type 0 where
+  pub sections : List (List Clause)
+  pub words-are : ws ≡ sectionsWords sections
+  pub fine : (s : ℕ) → s < length sections → SectionFine (getD sections s [])
+  pub few : length ws ≤ 1073741824
+
+-- the clauses of at most k counts, with `left` of them in the section that the loop is in
+unfoldable pub linesFrom : ℕ → ℕ → List ℤ → List Clause
+linesFrom zero left ws = []
+linesFrom (suc k) left [] = []
+linesFrom (suc k) zero (x ∷ ws) = linesFrom k (natAbs x) ws
+linesFrom (suc k) (suc left) (x ∷ ws) = take (natAbs x) ws ∷ linesFrom k left (drop (natAbs x) ws)
+
+unfoldable pub linesOf : List ℤ → List Clause
+linesOf ws = linesFrom (length ws) 0 ws
+
+-- how many they are, and how many bytes
+pub record Sized (cs : List Clause) (r : Size) : Type 0 where
+  pub clauses-are : r .clauses ≡ length cs
+  pub bytes-are : r .bytes ≡ length (clausesText cs)
+
+-- the first line, of v variables and n clauses
+unfoldable pub header : ℕ → ℕ → List ℕ
+header v n = problem ++ (digits v ++ (space ∷ (digits n ++ (newline ∷ []))))

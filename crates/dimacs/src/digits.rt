@@ -1,0 +1,37 @@
+// Numbers in decimal digits, most significant first.
+ghost use mathlib.Core.Path.{_≡_};
+ghost use Prim.Native.Nat.{_+_, _≤_, _<_};
+ghost use lib.ListN.{length};
+ghost use Rattle.lists.specs.Wrote.{Wrote};
+ghost use Rattle.dimacs.specs.Text.{digit, digits};
+
+pub fn count_digits(n: usize) -> usize
+    ensures { λ r. ⌜ r ≡ length (digits n) ⌝ }
+{
+    if 10 <= n {
+        return count_digits(n / 10) + 1;
+    }
+    1
+}
+
+// The byte of one digit.
+fn digit(d: usize) -> u8
+    requires { ⌜ d < 10 ⌝ }
+    ensures { λ r. ⌜ r ≡ digit d ⌝ }
+{
+    b'0' + d as u8
+}
+
+// The digits of its tenth are written first, and then the last.
+pub fn put_number(n: usize, out: &mut [u8], at: usize) -> usize
+    requires { ⌜ at + length (digits n) ≤ length (now out) ⌝ }
+    ensures { λ r. ⌜ Wrote (digits n) (now (out .entry)) at (now (out .exit)) r ⌝ }
+{
+    if n < 10 {
+        out[at] = digit(n);
+        return at + 1;
+    }
+    let to = put_number(n / 10, out, at);
+    out[to] = digit(n % 10);
+    to + 1
+}
