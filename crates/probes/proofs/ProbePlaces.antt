@@ -41,7 +41,6 @@ claims-at (q ∷ qs) (suc j) h =
 pub record Part (w h K : ℕ) (us : List ℕ) (k : ℕ) : Type 0 where
   pub probe : Probe
   pub probe-is : probe ≡ getD (heldIn w h K us) k noProbe
-  pub count-is : getD us (placeAt us k + 3) 0 ≡ length (probe .impacts)
   pub next-is : placeAt us (suc k) ≡ placeAt us k + 4 + 3 * length (probe .impacts)
   pub within : placeAt us (suc k) ≤ length us
   pub words-are : wordsAt us k ≡ probeWords probe
@@ -94,7 +93,6 @@ module _ {w h K : ℕ} {us : List ℕ} (A : Accepted w h K us) where
       record {
         probe = p;
         probe-is = refl;
-        count-is = at-count us k p more s;
         next-is = omega (arith, at-next us k p more s, probe-length p);
         within = at-within us k p more s;
         words-are = at-words us k p more s;

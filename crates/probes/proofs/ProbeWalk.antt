@@ -89,7 +89,7 @@ module _ {A : Type 0} (f : ℕ → List ℕ → Walk A) (at : ℕ) (part : List 
 
 -- ---- a probe
 
-pub next-keeps : {A B : Type 0} (g : A → B) (w : Walk A) → outcome (next w (λ a k vs. got (g a) k vs)) ≡ outcome w
+next-keeps : {A B : Type 0} (g : A → B) (w : Walk A) → outcome (next w (λ a k vs. got (g a) k vs)) ≡ outcome w
 next-keeps g (got a i ws) = refl
 next-keeps g (stop k p) = refl
 
@@ -124,7 +124,7 @@ module _ (w h K : ℕ) (ws : List ℕ) where
   Checked v = v ≡ checksOn w h K ws
 
   -- ps are read from the words before place j
-  abbrev pub ReadTo : ℕ → Type 0
+  abbrev ReadTo : ℕ → Type 0
   ReadTo j = Section (listed (readProbe w h K)) (λ ps. length ps ∷ probesWords ps) (λ ps. (false ≡ false) × Each noProbe (FineProbe w h K) ps) ws 0 j
 
   pub too-many : 1048576 < length ws → Checked (refused 20 (length ws))

@@ -1,6 +1,6 @@
 // The clauses of probes, by the words of accepted probes.
-use crate::cell::put_impact;
-use crate::cell::put_premise;
+use crate::impact::put_impact;
+use crate::premise::put_premise;
 use boards::board::Board;
 use lists::wide;
 use literals::number;

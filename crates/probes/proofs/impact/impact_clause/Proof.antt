@@ -1,8 +1,8 @@
 use Rattle.literals.proofs.Words.{word-is}
 use Rattle.probes.proofs.CellClauses.{implied-blank, implied-color, implied-other, one-room, one-wrote}
 use borrow.Author.Needs.{needs}
-use Rattle.probes.proofs.cell.impact_clause.Statement.{statement}
-use Rattle.probes.proofs.cell.impact_clause.Tie as tie
+use Rattle.probes.proofs.impact.impact_clause.Statement.{statement}
+use Rattle.probes.proofs.impact.impact_clause.Tie as tie
 
 pub impact-clause-spec : {M : Type 1} → statement M
 impact-clause-spec =

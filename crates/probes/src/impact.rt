@@ -1,4 +1,4 @@
-// What a premise and an impact say of one cell, by the first of its variables.
+// What an impact says of one cell behind a premise, by the first of its variables: it has that colour.
 use literals::no;
 use literals::number;
 use literals::yes;
@@ -8,38 +8,7 @@ ghost use lib.ListN.{length};
 ghost use Rattle.lists.specs.Wrote.{Wrote};
 ghost use Rattle.literals.specs.Literals.{IsVariable, largest};
 ghost use Rattle.sections.specs.Sections.{clauseWords, clausesWords};
-ghost use Rattle.probes.specs.Implications.{premiseOf, implied, impactOf};
-ghost use Rattle.probes.specs.ByWords.{premiseAt};
-
-// What a premise says of the variable u of one colour.
-fn premise_literal(color: u32, hue: u32, u: usize, out: &mut [i32], at: usize) -> usize
-    requires { ⌜ IsVariable u ⌝ }
-    requires { ⌜ at + length (premiseAt color hue u) ≤ length (now out) ⌝ }
-    ensures { λ r. ⌜ Wrote (premiseAt color hue u) (now (out .entry)) at (now (out .exit)) r ⌝ }
-{
-    if color == 0 {
-        out[at] = yes(u);
-        return at + 1;
-    }
-    if hue == color {
-        out[at] = no(u);
-        return at + 1;
-    }
-    at
-}
-
-// The premise of a cell whose variables begin at v.
-pub fn put_premise(color: u32, palette: &[u32], v: usize, out: &mut [i32]) -> usize
-    requires { ⌜ (0 < v) × (v + length (now palette) ≤ largest + 1) ⌝ }
-    requires { ⌜ length (now palette) ≤ length (now out) ⌝ }
-    ensures { λ r. ⌜ Wrote (premiseOf (now (palette .entry)) v color) (now (out .entry)) 0 (now (out .exit)) r ⌝ }
-{
-    let mut to = 0;
-    for r in 0..palette.len() {
-        to = premise_literal(color, palette[r], v + r, out, to);
-    }
-    to
-}
+ghost use Rattle.probes.specs.Implications.{implied, impactOf};
 
 fn copy(literals: &[i32], out: &mut [i32], at: usize) -> usize
     requires { ⌜ at + length (now literals) ≤ length (now out) ⌝ }

@@ -8,8 +8,8 @@ use Rattle.sections.specs.Sections.{clausesWords}
 use Rattle.probes.specs.Implications.{implied}
 use Rattle.probes.proofs.CellClauses.{impact-first, impact-done}
 use borrow.Author.Needs.{needs}
-use Rattle.probes.proofs.cell.put_impact.Statement.{statement}
-use Rattle.probes.proofs.cell.put_impact.Tie as tie
+use Rattle.probes.proofs.impact.put_impact.Statement.{statement}
+use Rattle.probes.proofs.impact.put_impact.Tie as tie
 
 abbrev Inv-loop : tie.InvT-loop
 Inv-loop premise color palette v out₀ at to₀ r₀ r-end out to r = (r-end ≡ length palette) × Emitting (length palette) (λ k. clausesWords (map (λ l. premise ++ (l ∷ [])) (implied color (getD palette k 0) (v + k)))) out₀ at out to r

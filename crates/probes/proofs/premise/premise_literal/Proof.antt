@@ -5,8 +5,8 @@ use Rattle.lists.proofs.Writing.{wrote-none, wrote-store}
 use Rattle.literals.proofs.Words.{word-is}
 use Rattle.probes.proofs.CellClauses.{premise-blank, premise-color, premise-other}
 use borrow.Author.Needs.{needs}
-use Rattle.probes.proofs.cell.premise_literal.Statement.{statement}
-use Rattle.probes.proofs.cell.premise_literal.Tie as tie
+use Rattle.probes.proofs.premise.premise_literal.Statement.{statement}
+use Rattle.probes.proofs.premise.premise_literal.Tie as tie
 
 pub premise-literal-spec : {M : Type 1} → statement M
 premise-literal-spec =

@@ -4,8 +4,8 @@ use lib.ListN.{length-set}
 use Rattle.literals.proofs.Words.{word-is}
 use Rattle.probes.proofs.CellClauses.{clause-room, literal-room, clause-wrote}
 use borrow.Author.Needs.{needs}
-use Rattle.probes.proofs.cell.put_clause.Statement.{statement}
-use Rattle.probes.proofs.cell.put_clause.Tie as tie
+use Rattle.probes.proofs.impact.put_clause.Statement.{statement}
+use Rattle.probes.proofs.impact.put_clause.Tie as tie
 
 pub put-clause-spec : {M : Type 1} → statement M
 put-clause-spec =

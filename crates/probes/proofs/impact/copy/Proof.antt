@@ -7,8 +7,8 @@ use Rattle.lists.proofs.Dropping.{drop-one}
 use Rattle.lists.proofs.Writing.{Filling, fill-first, fill-as, fill-space, fill-store, fill-kept, fill-done}
 use Rattle.literals.proofs.Words.{word-is}
 use borrow.Author.Needs.{needs}
-use Rattle.probes.proofs.cell.copy.Statement.{statement}
-use Rattle.probes.proofs.cell.copy.Tie as tie
+use Rattle.probes.proofs.impact.copy.Statement.{statement}
+use Rattle.probes.proofs.impact.copy.Tie as tie
 
 abbrev Inv-loop : tie.InvT-loop
 Inv-loop literals out₀ at to₀ i₀ i-end out to i = (i-end ≡ length literals) × Filling literals out₀ at (drop i literals) out to

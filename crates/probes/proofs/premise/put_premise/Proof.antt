@@ -6,8 +6,8 @@ use Rattle.lists.proofs.Emitting.{Emitting, emit-kept, emit-room, emit-next}
 use Rattle.probes.specs.ByWords.{premiseAt}
 use Rattle.probes.proofs.CellClauses.{premise-first, premise-done}
 use borrow.Author.Needs.{needs}
-use Rattle.probes.proofs.cell.put_premise.Statement.{statement}
-use Rattle.probes.proofs.cell.put_premise.Tie as tie
+use Rattle.probes.proofs.premise.put_premise.Statement.{statement}
+use Rattle.probes.proofs.premise.put_premise.Tie as tie
 
 abbrev Inv-loop : tie.InvT-loop
 Inv-loop color palette v out₀ to₀ r₀ r-end out to r = (r-end ≡ length palette) × Emitting (length palette) (λ k. premiseAt color (getD palette k 0) (v + k)) out₀ 0 out to r
