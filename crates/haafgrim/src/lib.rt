@@ -14,6 +14,8 @@ ghost use Rattle.pictures.specs.Pictures.{shown, blocking};
 ghost use Rattle.models.specs.Models.{modelChecks};
 ghost use Rattle.probes.specs.Probes.{probeChecks, probes};
 ghost use Rattle.probes.specs.Implications.{implications};
+ghost use Rattle.dimacs.specs.Walk.{wordChecks, clausesOf};
+ghost use Rattle.dimacs.specs.Text.{text};
 
 #[no_mangle]
 pub extern "C" fn haafgrim_two_powers(mask: u32, out: &mut [u32], place: &mut usize) -> u32
@@ -154,6 +156,21 @@ pub extern "C" fn haafgrim_probes(
     ensures { λ r. ⌜ Outcome (andThen (puzzleChecks (now (puzzle .entry))) (probeChecks (C.puzzle (now (puzzle .entry))) (now (probe .entry)))) (sectionWords (implications (C.puzzle (now (puzzle .entry))) (probes (C.puzzle (now (puzzle .entry))) (now (probe .entry))))) (now (out .entry)) r (now (place .exit)) (now (out .exit)) ⌝ }
 {
     let answer = probes::call::probes(puzzle, probe, out);
+    *place = answer.place();
+    answer.number()
+}
+
+#[no_mangle]
+pub extern "C" fn haafgrim_dimacs(
+    variables: usize,
+    sections: usize,
+    words: &[i32],
+    out: &mut [u8],
+    place: &mut usize,
+) -> u32
+    ensures { λ r. ⌜ Outcome (wordChecks variables sections (now (words .entry))) (text variables (clausesOf variables sections (now (words .entry)))) (now (out .entry)) r (now (place .exit)) (now (out .exit)) ⌝ }
+{
+    let answer = dimacs::call::dimacs(variables, sections, words, out);
     *place = answer.place();
     answer.number()
 }

@@ -49,7 +49,13 @@ fn put_impacts(
 }
 
 // A probe's words. Its premise, which all its clauses begin with, is made once.
-fn put_probe(part: &[u32], board: Board, palette: &[u32], out: &mut [i32], at: usize) -> usize
+fn generate_implications(
+    part: &[u32],
+    board: Board,
+    palette: &[u32],
+    out: &mut [i32],
+    at: usize,
+) -> usize
     requires { ⌜ ((z : Puzzle) × Shows board (length (now palette)) z) ⌝ }
     requires { ⌜ ProbeOnBoard board (now part) × (length (now palette) ≤ 31) ⌝ }
     requires { ⌜ at + length (clausesWords (ofProbe board (now palette) (now part))) ≤ length (now out) ⌝ }
@@ -80,7 +86,7 @@ pub fn write_probes(
     let mut i = 1;
     for l in 0..wide(probe[0]) {
         let next = i + 4 + 3 * wide(probe[i + 3]);
-        to = put_probe(&probe[i..next], board, palette, out, to);
+        to = generate_implications(&probe[i..next], board, palette, out, to);
         i = next;
     }
     to

@@ -2,11 +2,11 @@ use Rattle.probes.proofs.ProbeClauses.{premise-few, premise-taken, prob
 use native.Mathlib.Omega.{arith}
 use Rattle.lists.proofs.Writing.{tail-is}
 use borrow.Author.Needs.{needs}
-use Rattle.probes.proofs.write.put_probe.Statement.{statement}
-use Rattle.probes.proofs.write.put_probe.Tie as tie
+use Rattle.probes.proofs.write.generate_implications.Statement.{statement}
+use Rattle.probes.proofs.write.generate_implications.Tie as tie
 
-pub put-probe-spec : {M : Type 1} → statement M
-put-probe-spec =
+pub generate-implications-spec : {M : Type 1} → statement M
+generate-implications-spec =
     tie.close
     (tie.spec
     (λ c. search needs)
