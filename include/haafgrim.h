@@ -73,6 +73,12 @@ uint32_t haafgrim_blocking(const uint32_t *puzzle, size_t puzzle_len, const uint
  * Refuses: those of haafgrim_clauses, then 20, 1, 17, 18, 19, 11, 12. */
 uint32_t haafgrim_probes(const uint32_t *puzzle, size_t puzzle_len, const uint32_t *probe, size_t probe_len, int32_t *out, size_t out_len, size_t *place);
 
+/* Clause words as DIMACS CNF text: so many sections, as haafgrim_clauses writes ten of them, of any words whatever. The first line is `p cnf V C`, with the number of variables
+ * and that of clauses; then comes a line for each clause, its literals and 0 parted by single spaces; a newline after each line, no comments, no zero byte at the end. The words
+ * hold literals of the variables 1 to `variables`; each section's clauses follow those of the section before. Two different formulas never give one text.
+ * Refuses: 21 (place 0 for over 1,000,000 variables, 1 for over 16 sections, 2 for over 1,073,741,824 words), 22, 12. */
+uint32_t haafgrim_dimacs(size_t variables, size_t sections, const int32_t *words, size_t words_len, uint8_t *out, size_t out_len, size_t *place);
+
 #ifdef __cplusplus
 }
 #endif

@@ -13,7 +13,7 @@ To hold the program against it on cases that nobody chose:
     python3 tests/model.py --random 1 1000 > cases
     target/bin/vectors < cases > got; python3 tests/model.py < cases | cmp - got
 
-A case is a line `ENTRY ROOM NUMBERS`: the buffer that is lent has ROOM words (bytes, for transpose and check_model), all of them 7. `check_model`, `blocking`
+A case is a line `ENTRY ROOM NUMBERS`: the buffer that is lent has ROOM words (bytes, for transpose, check_model and dimacs), all of them 7. A number may be negative: it stands for its 32 bits. `check_model`, `blocking`
 and `probes` take the number of the puzzle's words, these words, then the model's bytes or the probe words. `N*M` stands for M times the
 number N, in a case and in an answer; an answer uses it from four times on. Lines that begin with # and empty lines are printed and no more. The answer
 to a case is ` NUMBER PLACE: BUFFER`, the whole buffer. Two entries answer otherwise. `from_two_powers` has no number and no place: its mask stands
@@ -451,6 +451,35 @@ def probes(words, probe_words):
     return section_words([out])
 
 
+# ---- DIMACS
+
+def word_needed(words, at, wrong):
+    if at == len(words) or wrong(words[at]):
+        raise Refused(22, at)
+    return words[at]
+
+
+def dimacs(variables, section_count, words):
+    if variables > 1000000:
+        raise Refused(21, 0)
+    if section_count > 16:
+        raise Refused(21, 1)
+    if len(words) > 1073741824:
+        raise Refused(21, 2)
+    at, lines = 0, []
+    for _ in range(section_count):
+        left = word_needed(words, at, lambda n: n < 0)
+        at += 1
+        for _ in range(left):
+            count = word_needed(words, at, lambda n: n < 0)
+            literals = [word_needed(words, i, lambda n: not 1 <= abs(n) <= variables) for i in range(at + 1, at + 1 + min(count, len(words)))]
+            at += 1 + count
+            lines.append(" ".join(str(n) for n in literals + [0]))
+    if at < len(words):
+        raise Refused(22, at)
+    return list("".join(line + "\n" for line in [f"p cnf {variables} {len(lines)}"] + lines).encode())
+
+
 # ---- grids
 
 def check_sizes(width, height, grid):
@@ -530,6 +559,7 @@ def answer(entry, room, args):
         "transpose": lambda: transpose(args[0], args[1], args[2:]),
         "clauses": lambda: clauses(args),
         "counts": lambda: counts(args),
+        "dimacs": lambda: dimacs(args[0], args[1], [n - 2 ** 32 if n >= 2 ** 31 else n for n in args[2:]]),
     }
     return lent(room, calls[entry])
 
@@ -538,7 +568,7 @@ def numbers(text):
     out = []
     for word in text:
         n, _, times = word.partition("*")
-        out += [int(n)] * (int(times) if times else 1)
+        out += [int(n) % 2 ** 32] * (int(times) if times else 1)
     return out
 
 
@@ -790,8 +820,28 @@ def random_probe_case(r):
     return "probes", random_room(r, "probes", args), args
 
 
+def random_dimacs_case(r):
+    """The clauses of a small puzzle, or sections at random, some of them damaged."""
+    variables, section_count = r.choice([0, 1, 9, 10, 99, 100, 999999, 1000000]), r.choice([0, 1, 2, 15, 16])
+    made = [[[r.choice([-1, 1]) * r.choice([1, 9, 10, variables, r.randint(1, variables)]) for _ in range(r.randrange(4))] for _ in range(r.randrange(4))] if variables else []
+            for _ in range(section_count)]
+    made = [[[min(n, variables) if n > 0 else max(n, -variables) for n in clause] for clause in section] for section in made]
+    if r.random() < 0.3:
+        z = Puzzle(puzzle_words(*random_puzzle(r, (3, 3))))
+        variables, section_count, made = totals(z)[0], 10, sections(z)
+    words = [n % 2 ** 32 for n in section_words(made)]
+    if r.random() < 0.4:
+        words = damaged(r, words)
+    if r.random() < 0.1:
+        variables, section_count = r.choice([(1000001, section_count), (variables, 17), (2 ** 32 - 1, 2 ** 32 - 1)])
+    args = [variables, section_count] + words
+    return "dimacs", random_room(r, "dimacs", args), args
+
+
 def random_case(r):
     kind = r.random()
+    if kind > 0.94:
+        return random_dimacs_case(r)
     if kind < 0.08:
         return random_model_case(r, "check_model")
     if kind < 0.12:

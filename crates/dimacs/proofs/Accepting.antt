@@ -1,7 +1,7 @@
 -- Words that are accepted: they are the words of sections with good literals, and the clauses that they hold are those.
 use mathlib.Core.Path.{_≡_, refl, sym, ap, _∙_}
-use mathlib.Core.List.{List, [], _∷_, _++_, append-nil}
-use Prim.Native.Nat.{ℕ, zero, suc, _≤_}
+use mathlib.Core.List.{List, [], _∷_, append-nil}
+use Prim.Native.Nat.{ℕ, _≤_}
 use native.Mathlib.Omega.{arith}
 use native.Mathlib.Nat.{zero-add}
 use lib.Dec.{ltb}
@@ -13,12 +13,9 @@ use Rattle.refusals.proofs.Answering.{refuse-accepted}
 use Rattle.literals.proofs.Readings.{literal-is}
 use Rattle.sections.specs.Sections.{Clause, sectionsWords}
 use Rattle.dimacs.specs.Walk.{Walk, got, stop, times, readSection, walked, sectionsOf, wordChecks, together, clausesOf}
-use Rattle.dimacs.specs.Text.{text}
-use Rattle.dimacs.specs.Reading.{AreLiterals}
 use Rattle.dimacs.specs.Lines.{SectionFine, Formed, linesOf}
 use Rattle.dimacs.proofs.Readers.{Each, FineSection, section-reader, times-only, times-back}
 use Rattle.dimacs.proofs.Ahead.{lines-are}
-use Rattle.dimacs.proofs.ReadBack.{text-once}
 
 -- the sections that words hold
 abbrev held : ℕ → ℕ → List ℤ → List (List Clause)
@@ -28,16 +25,6 @@ record Held (v n : ℕ) (ws : List ℤ) : Type 0 where
   pub few : length ws ≤ 1073741824
   pub words-are : ws ≡ sectionsWords (held v n ws)
   pub fine : Each [] (FineSection v) (held v n ws)
-
-joined-fine : (cs ds : List Clause) → SectionFine cs → SectionFine ds → SectionFine (cs ++ ds)
-joined-fine [] ds f g i h = g i h
-joined-fine (c ∷ cs) ds f g zero h = f 0 (omega arith)
-joined-fine (c ∷ cs) ds f g (suc i) h = joined-fine cs ds (λ i h. f (suc i) (omega arith)) g i (omega arith)
-
-together-fine : (ss : List (List Clause)) → Each [] SectionFine ss → SectionFine (together ss)
-unfolding together
-together-fine [] f i h = absurd (omega arith)
-together-fine (s ∷ ss) f i h = joined-fine s (together ss) (f 0 (omega arith)) (together-fine ss (λ k l. f (suc k) (omega arith))) i h
 
 module _ (v n : ℕ) (ws : List ℤ) where
   walked-is : {k : ℕ} (w : Walk (List (List Clause))) → times n (readSection v) 0 ws ≡ w → accepted k ≡ walked w → (ws ≡ sectionsWords (sectionsOf w)) × Each [] (FineSection v) (sectionsOf w)
@@ -72,10 +59,6 @@ module _ (v n : ℕ) (ws : List ℤ) where
     pub accepted-lines : linesOf ws ≡ clausesOf v n ws
     accepted-lines = ap linesOf (accepted-held .words-are) ∙ lines-are (held v n ws)
 
-    -- none of whose literals is 0
-    pub accepted-literals : AreLiterals (clausesOf v n ws)
-    accepted-literals i j h l = together-fine (held v n ws) variables-are i h j l .least
-
 -- ---- the words of such sections are accepted, and hold them
 
 module _ (v n : ℕ) (ss : List (List Clause)) (v-few : v ≤ 1000000) (n-few : n ≤ 16) (few : length (sectionsWords ss) ≤ 1073741824) (n-is : length ss ≡ n) (fine : Each [] (FineSection v) ss) where
@@ -93,9 +76,3 @@ module _ (v n : ℕ) (ss : List (List Clause)) (v-few : v ≤ 1000000) (n-few : 
   pub words-hold : clausesOf v n (sectionsWords ss) ≡ together ss
   unfolding sectionsOf
   words-hold = rw reads
-
--- ---- two calls that write the same text were of one formula
-
-pub written-once : (v n : ℕ) (ws : List ℤ) (w m : ℕ) (us : List ℤ) {k l : ℕ} → accepted k ≡ wordChecks v n ws → accepted l ≡ wordChecks w m us
-    → text v (clausesOf v n ws) ≡ text w (clausesOf w m us) → (v ≡ w) × (clausesOf v n ws ≡ clausesOf w m us)
-written-once v n ws w m us e f t = text-once v w (clausesOf v n ws) (clausesOf w m us) (accepted-literals v n ws e) (accepted-literals w m us f) t

@@ -82,7 +82,7 @@ lines-once (c ∷ cs) (d ∷ ds) e = let r = clauses-parted c d e in ap₂ _∷_
 
 pub text-once : TextOnce
 unfolding text
-text-once v w cs ds _ _ e =
+text-once v w cs ds e =
     let t : digits v ++ (space ∷ (digits (length cs) ++ (10 ∷ clausesText cs))) ≡ digits w ++ (space ∷ (digits (length ds) ++ (10 ∷ clausesText ds))) = cc in
     let n = numbers-parted v w (omega arith) (omega arith) t in
     let m = numbers-parted (length cs) (length ds) (omega arith) (omega arith) (n .2) in

@@ -2,9 +2,7 @@
 use mathlib.Core.Path.{_≡_}
 use mathlib.Core.List.{List, [], _∷_}
 use Prim.Native.Nat.{ℕ, _+_, _*_, _-_, _≤_, _<_}
-use lib.IntN.{pos}
 use lib.ListN.{length, getD}
-use Rattle.literals.specs.Literals.{variable}
 use Rattle.sections.specs.Sections.{Clause}
 use Rattle.dimacs.specs.Text.{digits, text}
 
@@ -24,10 +22,6 @@ pub record Digits (n : ℕ) (ds : List ℕ) : Type 0 where
 abbrev pub DigitsAre : Type 0
 DigitsAre = (n : ℕ) → Digits n (digits n)
 
--- no literal is 0
-abbrev pub AreLiterals : List Clause → Type 0
-AreLiterals cs = (i j : ℕ) → i < length cs → j < length (getD cs i []) → 0 < variable (getD (getD cs i []) j (pos 0))
-
 -- two texts that are the same are of one formula
 abbrev pub TextOnce : Type 0
-TextOnce = (v w : ℕ) (cs ds : List Clause) → AreLiterals cs → AreLiterals ds → text v cs ≡ text w ds → (v ≡ w) × (cs ≡ ds)
+TextOnce = (v w : ℕ) (cs ds : List Clause) → text v cs ≡ text w ds → (v ≡ w) × (cs ≡ ds)

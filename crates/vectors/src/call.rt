@@ -1,4 +1,5 @@
 // A call of an entry, with the length of the buffer that it is lent and its other numbers.
+use crate::dimacs;
 use crate::entry::Entry;
 use crate::model;
 use crate::number::at_most;
@@ -32,6 +33,7 @@ pub fn call(entry: Entry, room: u32, args: &[u32]) {
         Entry::CheckModel => model::parted(entry, index(room), args),
         Entry::Blocking => model::parted(entry, index(room), args),
         Entry::Probes => model::parted(entry, index(room), args),
+        Entry::Dimacs => dimacs::text(index(room), args),
         _ => lend(entry, index(room), args, &bytes, n),
     }
 }

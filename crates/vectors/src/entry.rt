@@ -12,6 +12,7 @@ pub enum Entry {
     CheckModel,
     Blocking,
     Probes,
+    Dimacs,
     Puzzle,
     Unknown,
 }
@@ -52,6 +53,9 @@ pub fn named(name: &[u8]) -> Entry {
     }
     if check::same(name, b"probes") {
         return Entry::Probes;
+    }
+    if check::same(name, b"dimacs") {
+        return Entry::Dimacs;
     }
     if check::same(name, b"puzzle") {
         return Entry::Puzzle;

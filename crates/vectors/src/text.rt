@@ -37,7 +37,7 @@ fn put_word(word: &[u8], out: &mut [u32], at: usize) -> usize
     ensures { λ r. ⌜ r ≤ length (now (out .entry)) ⌝ }
 {
     let star = find(word, 0, b'*');
-    let n = number(&word[0..star]);
+    let n = signed(&word[0..star]);
     if star == word.len() {
         return repeat(out, at, n, 1);
     }
@@ -57,6 +57,21 @@ fn repeat(out: &mut [u32], at: usize, n: u32, times: u32) -> usize
         next += 1;
     }
     next
+}
+
+// A negative number stands for its 32 bits.
+fn signed(word: &[u8]) -> u32 {
+    let n = number(word);
+    if n == 0 {
+        return n;
+    }
+    if word.len() == 0 {
+        return n;
+    }
+    if word[0] == b'-' {
+        return 4294967295 - n + 1;
+    }
+    n
 }
 
 // The number that a word's digits are; other bytes are passed over.
