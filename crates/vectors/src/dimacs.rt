@@ -46,5 +46,8 @@ fn literal(word: u32) -> i32 {
     if word < 2147483648 {
         return word as i32;
     }
-    (word as i64 - 4294967296) as i32
+    if word == 2147483648 {
+        return -2147483648;
+    }
+    -((4294967295 - word + 1) as i32)
 }
