@@ -113,6 +113,10 @@ def random_small(r):
     width, height = r.choice([(1, 1), (2, 1), (2, 2), (3, 2), (2, 3), (3, 3), (4, 2)])
     palette = r.sample(range(1, 32), r.choice([1, 1, 2]))
     cells = [r.choice([0] + palette) for _ in range(width * height)]
+    if r.random() < 0.4:  # one cell in each line, which many pictures have
+        width = height = r.choice([2, 3, 3])
+        order = r.sample(range(width), width)
+        cells = [palette[0] if order[y] == x else 0 for y in range(height) for x in range(width)]
     columns, rows = lines_of(width, cells)
     K = sorted({color for blocks in rows for _, color in blocks} or {1})
     whole = 1 + sum(2 ** color for color in K)
