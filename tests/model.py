@@ -16,7 +16,8 @@ To hold the program against it on cases that nobody chose:
 A case is a line `ENTRY ROOM NUMBERS`: the buffer that is lent has ROOM words (bytes, for transpose, check_model and dimacs), all of them 7. A number may be negative: it stands for its 32 bits. `check_model`, `blocking`
 and `probes` take the number of the puzzle's words, these words, then the model's bytes or the probe words. `N*M` stands for M times the
 number N, in a case and in an answer; an answer uses it from four times on. Lines that begin with # and empty lines are printed and no more. The answer
-to a case is ` NUMBER PLACE: BUFFER`, the whole buffer. Two entries answer otherwise. `from_two_powers` has no number and no place: its mask stands
+to a case is ` NUMBER PLACE: BUFFER`, the whole buffer. Three entries answer otherwise. `encode`, the base program, takes a number of zero bytes that come behind its words:
+the number is the checksum of what it writes, the place its length, and the first ROOM bytes follow. `from_two_powers` has no number and no place: its mask stands
 for the number. `puzzle` has no buffer (its ROOM counts for nothing): after an acceptance, with place 0, come width, height, the word of the
 height, the word of the cell count and K as a mask; then for each line, columns first, the word of its block count, its first variable, its number of
 positions p, its least space and the start of each of its blocks.
@@ -480,6 +481,34 @@ def dimacs(variables, section_count, words):
     return list("".join(line + "\n" for line in [f"p cnf {variables} {len(lines)}"] + lines).encode())
 
 
+# ---- the program
+
+def encode(data):
+    """What the base program writes, of the bytes that it reads."""
+    try:
+        if len(data) > 65536:
+            raise Refused(23, 65536)
+        if len(data) % 4:
+            raise Refused(23, len(data))
+        z = Puzzle([int.from_bytes(data[i:i + 4], "little") for i in range(0, len(data), 4)])
+        if totals(z)[-1] > 16384:
+            raise Refused(12, totals(z)[-1])
+        text = dimacs(totals(z)[0], 10, section_words(sections(z)))
+        if len(text) > 65536:
+            raise Refused(12, len(text))
+        return text
+    except Refused as why:
+        return list(f"refused {why.number} at {why.place}\n".encode())
+
+
+def checksum(data):
+    """FNV-1a, of 32 bits."""
+    h = 2166136261
+    for byte in data:
+        h = (h ^ byte) * 16777619 % 2 ** 32
+    return h
+
+
 # ---- grids
 
 def check_sizes(width, height, grid):
@@ -547,6 +576,9 @@ def answer(entry, room, args):
             return 0, 0, puzzle(args)
         except Refused as why:
             return why.number, why.place, []
+    if entry == "encode":
+        out = encode(b"".join(n.to_bytes(4, "little") for n in args[1:]) + bytes(args[0]))
+        return checksum(out), len(out), out[:room]
     if entry in ("check_model", "blocking", "probes"):
         call = {"check_model": check_model, "blocking": blocking, "probes": probes}[entry]
         return lent(room, lambda: call(args[1:1 + args[0]], args[1 + args[0]:]))
