@@ -1,0 +1,5 @@
+pub mod ClauseVariables
+pub mod InputWords
+pub mod RefusedLine
+pub mod Called
+pub mod PuzzleText
