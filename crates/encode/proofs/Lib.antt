@@ -3,3 +3,5 @@ pub mod InputWords
 pub mod RefusedLine
 pub mod Called
 pub mod PuzzleText
+pub mod Telling
+pub mod Fronts

@@ -1,8 +1,10 @@
 -- From a puzzle's words to the text: its refusals, 12 by clause words, and the call `dimacs` on the clause buffer, which is accepted.
 use mathlib.Core.Path.{_≡_, refl, sym, ap, _∙_}
+use mathlib.Core.Bool.{true}
 use mathlib.Core.List.{List, [], _∷_, _++_}
 use Prim.Native.Nat.{ℕ, _≤_}
 use native.Mathlib.Omega.{arith}
+use native.Mathlib.Nat.{zero-add}
 use lib.Dec.{ltb}
 use lib.IntN.{ℤ}
 use lib.ListN.{length, take, getD}
@@ -62,3 +64,37 @@ module _ (ws : List ℕ) where
     pub counts-variables : {used : ℕ} → a ≡ Accepted used → getD out′ 0 0 ≡ variables (puzzle ws)
     unfolding countsOf
     counts-variables r = wrote-at (omega arith) (accepted-wrote given r) 0 0 (omega (arith, thirteen))
+
+  -- ---- the call `clauses`, of accepted words
+
+  module _ {m : ℕ} (e : accepted m ≡ puzzleChecks ws) {buf buf′ : List ℤ} {a : Answer} (given : Answers (puzzleChecks ws) (buffer (puzzle ws)) buf a buf′) (room : length buf ≡ 16384) where
+    pub clauses-refused : {why : Refusal} → a ≡ Refused why → told a ≡ wordsChecks ws
+    clauses-refused r =
+        let n = length (buffer (puzzle ws)) in
+        let t = told-refused (ltb (length buf) n) 12 n n r (given .answer-is ∙ rw (← e)) in
+        let b : ltb 16384 n ≡ true = rw room at (t .0) in
+        t .1 ∙ rw (← e, b)
+
+    module _ {used : ℕ} (r : a ≡ Accepted used) where
+      few : length (buffer (puzzle ws)) ≤ 16384
+      few = rw room at (accepted-room given r)
+
+      used-is : used ≡ length (buffer (puzzle ws))
+      used-is = accepted-wrote given r .next-is ∙ zero-add (length (buffer (puzzle ws)))
+
+      pub clauses-within : used ≤ 16384
+      clauses-within = omega (arith, used-is, few)
+
+      pub clauses-taken : take used buf′ ≡ buffer (puzzle ws)
+      clauses-taken = rw used-is (wrote-there (omega arith) (accepted-wrote given r))
+
+      -- ---- and the call `dimacs` of them
+
+      pub text-answers : {v : ℕ} → v ≡ variables (puzzle ws) → {us : List ℤ} → us ≡ buffer (puzzle ws) → {out out′ : List ℕ} {b : Answer}
+          → Answers (wordChecks v 10 us) (text v (clausesOf v 10 us)) out b out′ → Answers (wordsChecks ws) (textOf (puzzle ws)) out b out′
+      text-answers v-is us-is x =
+          let z = puzzle ws in
+          let G = accepted-is ws e .good in
+          let y : Answers (accepted (length (buffer z))) (textOf z) _ _ _ = rw (v-is, us-is, ← buffer-accepted z G few, buffer-holds z G few) at x in
+          let c : accepted 0 ≡ wordsChecks ws = rw (← e, le-ltb _ _ few) in
+          answers-checked _ _ c y

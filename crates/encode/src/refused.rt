@@ -34,7 +34,7 @@ fn put_at(out: &mut [u8], to: usize) -> usize
 
 pub fn put_refused(number: usize, place: usize, out: &mut [u8]) -> usize
     requires { ⌜ 53 ≤ length (now out) ⌝ }
-    ensures { λ r. ⌜ Wrote (refusedText number place) (now (out .entry)) 0 (now (out .exit)) r ⌝ }
+    ensures { λ r. ⌜ Wrote (refusedText number place) (now (out .entry)) 0 (now (out .exit)) r × (r ≤ 53) ⌝ }
 {
     let at = put_word(out);
     let to = put_number(number, out, at);

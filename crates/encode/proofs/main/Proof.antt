@@ -1,3 +1,6 @@
+use mathlib.Core.Path.{sym}
+use native.Mathlib.Omega.{arith}
+use lib.Seq.{length-take-le}
 use borrow.Author.Needs.{needs}
 use Rattle.encode.proofs.main.Statement.{statement}
 use Rattle.encode.proofs.main.Tie as tie
@@ -37,7 +40,7 @@ array-share-prefix-out : tie.Need-array-share-prefix-out
 array-share-prefix-out c = search needs
 
 slice-aggregate-write-all : tie.Need-slice-aggregate-write-all
-slice-aggregate-write-all c = search needs
+slice-aggregate-write-all c = sym (length-take-le _ _ (omega (arith, c .before .before .encode .ensures .1, c .before .before .encode .kept .1 .0, c .before .before .before .before .before .output-buffer .ensures)))
 
 write-all-requires : tie.Need-write-all-requires
 write-all-requires c κs = search needs

@@ -1,3 +1,6 @@
+use mathlib.Core.Path.{sym}
+use lib.Seq.{length-take-le}
+use Rattle.encode.proofs.Fronts.{wrote-front}
 use borrow.Author.Needs.{needs}
 use Rattle.encode.proofs.program.encode.Statement.{statement}
 use Rattle.encode.proofs.program.encode.Tie as tie
@@ -9,16 +12,16 @@ slice-relend-prefix-tell : tie.Need-slice-relend-prefix-tell
 slice-relend-prefix-tell c = search needs
 
 slice-aggregate-tell : tie.Need-slice-aggregate-tell
-slice-aggregate-tell c = search needs
+slice-aggregate-tell c = sym (length-take-le 65536 (c .before .before .before .args .out .now) (c .before .before .before .pre))
 
 tell-requires : tie.Need-tell-requires
-tell-requires c κs = search needs
+tell-requires c κs = sym (length-take-le 65536 (c .before .before .before .args .out .now) (c .before .before .before .pre))
 
 same-length : tie.Need-same-length
 same-length c = search needs
 
 returns : tie.Need-returns
-returns c = search needs
+returns c = (wrote-front (c .before .before .before .before .before .before .pre) (c .before .before .tell .ensures .1) (c .before .before .tell .ensures .0), c .before .before .tell .ensures .1)
 
 pub encode-spec : {M : Type 1} → statement M
 encode-spec =

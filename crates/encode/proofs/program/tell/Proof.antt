@@ -1,3 +1,6 @@
+use mathlib.Core.Path.{sym, _∙_}
+use native.Mathlib.Omega.{arith}
+use Rattle.encode.proofs.Telling.{text-told, text-within, refusal-told}
 use borrow.Author.Needs.{needs}
 use Rattle.encode.proofs.program.tell.Statement.{statement}
 use Rattle.encode.proofs.program.tell.Tie as tie
@@ -28,19 +31,19 @@ place-requires : tie.Need-place-requires
 place-requires c κs = search needs
 
 put-refused-requires : tie.Need-put-refused-requires
-put-refused-requires c κs = search needs
+put-refused-requires c κs = omega (arith, c .before .before .before .before .before .before .before .before .before .before .before .before .pre, c .before .before .before .before .before .before .before .before .write-input .kept .1 .0)
 
 same-length : tie.Need-same-length
-same-length c = search needs
+same-length c = omega (arith, c .before .before .put-refused .kept .1 .1 .0, c .before .before .before .before .before .before .before .before .before .before .before .write-input .kept .1 .0)
 
 returns : tie.Need-returns
-returns c = search needs
+returns c = (refusal-told (c .before .before .before .before .before .before .before .before .before .before .before .before .before .before .before .args .input .now) (c .before .before .before .before .before .before .before .before .before .before .before .before .before .before .before .pre) (c .before .before .before .before .before .before .before .before .before .before .before .write-input .ensures) (c .before .before .before .before .before .before .before .enum-told .given .1) (c .before .before .before .before .before .wide .ensures ∙ c .before .before .before .before .before .before .number .ensures) (c .before .before .before .before .place .ensures) (c .before .before .put-refused .ensures .0), omega (arith, c .before .before .put-refused .ensures .1))
 
 same-length-2 : tie.Need-same-length-2
 same-length-2 c = search needs
 
 returns-2 : tie.Need-returns-2
-returns-2 c = search needs
+returns-2 c = (text-told (c .before .before .before .before .before .before .before .before .before .args .input .now) (c .before .before .before .before .before .before .before .before .before .pre) (c .before .before .before .before .before .write-input .ensures) (c .before .answer .given .1), text-within (c .before .before .before .before .before .before .before .before .before .args .input .now) (c .before .before .before .before .before .before .before .before .before .pre) (c .before .before .before .before .before .write-input .ensures) (c .before .answer .given .1))
 
 pub tell-spec : {M : Type 1} → statement M
 tell-spec =

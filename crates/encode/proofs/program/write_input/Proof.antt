@@ -1,3 +1,8 @@
+use mathlib.Core.Path.{sym}
+use native.Mathlib.Omega.{arith}
+use lib.Seq.{length-take-le}
+use Rattle.refusals.proofs.Answering.{answers-refused}
+use Rattle.encode.proofs.Telling.{input-refused, input-few, input-answers, words-count, words-taken}
 use borrow.Author.Needs.{needs}
 use Rattle.encode.proofs.program.write_input.Statement.{statement}
 use Rattle.encode.proofs.program.write_input.Tie as tie
@@ -18,7 +23,7 @@ enum-told-2 : tie.Need-enum-told-2
 enum-told-2 c = search needs
 
 returns : tie.Need-returns
-returns c = search needs
+returns c = answers-refused _ _ (c .enum-told2 .given .1) (input-refused (c .before .before .before .before .before .args .input .now) (c .enum-told2 .given .1) (c .before .before .check-input .ensures))
 
 word-buffer-requires : tie.Need-word-buffer-requires
 word-buffer-requires c κs = search needs
@@ -27,13 +32,13 @@ slice-aggregate-read-words : tie.Need-slice-aggregate-read-words
 slice-aggregate-read-words c = search needs
 
 read-words-requires : tie.Need-read-words-requires
-read-words-requires c κs = search needs
+read-words-requires c κs = omega (arith, input-few (c .before .before .before .before .before .before .before .args .input .now) (c .before .before .enum-told .given .1) (c .before .before .before .before .check-input .ensures), c .before .word-buffer .ensures)
 
 array-share-prefix-words : tie.Need-array-share-prefix-words
-array-share-prefix-words c = search needs
+array-share-prefix-words c = omega (arith, input-few (c .before .before .before .before .before .before .before .before .before .args .input .now) (c .before .before .before .before .enum-told .given .1) (c .before .before .before .before .before .before .check-input .ensures), words-count (c .before .before .before .before .before .before .before .before .before .args .input .now) (c .before .read-words .ensures), c .before .read-words .kept .1 .0, c .before .before .before .word-buffer .ensures)
 
 slice-aggregate-write-puzzle : tie.Need-slice-aggregate-write-puzzle
-slice-aggregate-write-puzzle c = search needs
+slice-aggregate-write-puzzle c = sym (length-take-le _ _ (omega (arith, input-few (c .before .before .before .before .before .before .before .before .before .before .args .input .now) (c .before .before .before .before .before .enum-told .given .1) (c .before .before .before .before .before .before .before .check-input .ensures), words-count (c .before .before .before .before .before .before .before .before .before .before .args .input .now) (c .before .before .read-words .ensures), c .before .before .read-words .kept .1 .0, c .before .before .before .before .word-buffer .ensures)))
 
 write-puzzle-requires : tie.Need-write-puzzle-requires
 write-puzzle-requires c κs = search needs
@@ -42,7 +47,7 @@ same-length : tie.Need-same-length
 same-length c = search needs
 
 returns-2 : tie.Need-returns-2
-returns-2 c = search needs
+returns-2 c = input-answers (c .before .before .before .before .before .before .before .before .before .before .before .before .before .before .args .input .now) (c .before .before .before .before .before .before .before .before .before .enum-told .given .1) (c .before .before .before .before .before .before .before .before .before .before .before .check-input .ensures) (words-taken (c .before .before .before .before .before .before .before .before .before .before .before .before .before .before .args .input .now) (c .before .before .before .before .before .before .read-words .ensures)) (c .before .before .write-puzzle .ensures)
 
 pub write-input-spec : {M : Type 1} → statement M
 write-input-spec =
