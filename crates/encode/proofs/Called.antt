@@ -6,7 +6,7 @@ use lib.Dec.{ltb}
 use lib.ListN.{length}
 use borrow.Author.Tests.{le-ltb, ltb-false}
 use Rattle.lists.specs.Wrote.{Wrote}
-use Rattle.refusals.specs.Verdict.{Verdict, accepted, refused, andThen}
+use Rattle.refusals.specs.Verdict.{Verdict, accepted, refused}
 use Rattle.refusals.specs.Told.{told}
 use Rattle.refusals.specs.Outcome.{Answers, verdict, kept}
 use Rattle.refusals.specs.declared.Refusal.{Refusal}

@@ -6,7 +6,7 @@ use Prim.Native.Nat.{ℕ, zero, suc, _+_, _-_, _≤_, _<_}
 use native.Mathlib.Omega.{arith}
 use native.Mathlib.Decide.{decLt}
 use lib.IntN.{ℤ, pos}
-use lib.ListN.{length, getD, length-append, List·getD-append}
+use lib.ListN.{length, length-append, List·getD-append}
 use lib.Seq.{getD-append-add}
 use Rattle.lists.specs.Each.{each, tab, when, pairs, product}
 use Rattle.bits.specs.Bits.{bit}
@@ -20,7 +20,7 @@ use Rattle.lines.proofs.Packing.{packed-length}
 use Rattle.puzzles.specs.Puzzle.{Puzzle, width, height, lines, clueAt}
 use Rattle.puzzles.specs.Colors.{solved}
 use Rattle.puzzles.specs.Good.{Good}
-use Rattle.numbering.specs.Variables.{Line, lineAt, many, placedAt, firstOf, variable, hues, hue, cellFirst, cellVariable, variables}
+use Rattle.numbering.specs.Variables.{lineAt, many, placedAt, firstOf, variable, hues, hue, cellFirst, cellVariable, variables}
 use Rattle.numbering.specs.Names.{position, cell}
 use Rattle.numbering.proofs.OneToOne.{number-within}
 use Rattle.numbering.proofs.Bounds.{variables-most}

@@ -6,7 +6,7 @@ use native.Mathlib.Omega.{arith}
 use lib.ListN.{length, getD, set}
 use Rattle.lists.specs.Wrote.{Wrote}
 use Rattle.lists.proofs.Eaches.{length-tab}
-use Rattle.lists.proofs.Emitting.{Emitting, emit-first, emit-room, emit-next, emit-kept, emit-done}
+use Rattle.lists.proofs.Emitting.{Emitting, emit-first, emit-room, emit-next, emit-done}
 use Rattle.lists.proofs.Writing.{wrote-store}
 use Rattle.lists.specs.Each.{each, tab}
 use Rattle.encode.specs.Encode.{wordsOf}

@@ -1,7 +1,7 @@
 -- From a puzzle's words to the text: its refusals, 12 by clause words, and the call `dimacs` on the clause buffer, which is accepted.
-use mathlib.Core.Path.{_≡_, refl, sym, ap, _∙_}
+use mathlib.Core.Path.{_≡_, refl, ap, _∙_}
 use mathlib.Core.Bool.{true}
-use mathlib.Core.List.{List, [], _∷_, _++_}
+use mathlib.Core.List.{List, [], _∷_}
 use Prim.Native.Nat.{ℕ, _≤_}
 use native.Mathlib.Omega.{arith}
 use native.Mathlib.Nat.{zero-add}
@@ -9,15 +9,14 @@ use lib.Dec.{ltb}
 use lib.IntN.{ℤ}
 use lib.ListN.{length, take, getD}
 use borrow.Author.Tests.{le-ltb}
-use Rattle.lists.specs.Wrote.{Wrote}
 use Rattle.lists.proofs.Writing.{wrote-there, wrote-at}
-use Rattle.refusals.specs.Verdict.{Verdict, accepted, refused, andThen}
+use Rattle.refusals.specs.Verdict.{accepted, andThen}
 use Rattle.refusals.specs.Told.{told}
 use Rattle.refusals.specs.Outcome.{Answers}
 use Rattle.refusals.specs.declared.Refusal.{Refusal}
 use Rattle.refusals.specs.declared.Answer.{Answer}
 use Rattle.refusals.specs.declared.Answer.the-variants.{Accepted, Refused}
-use Rattle.refusals.proofs.Answering.{handed-up, told-refused, answers-refused, answers-checked}
+use Rattle.refusals.proofs.Answering.{handed-up, told-refused, answers-checked}
 use Rattle.sections.specs.Sections.{Clause}
 use Rattle.puzzles.specs.Puzzle.{Puzzle}
 use Rattle.puzzles.specs.Good.{Good}

@@ -1,29 +1,26 @@
 -- From the bytes of the input to the answer of the program, and from that to what it writes.
 use mathlib.Core.Path.{_≡_, refl, sym, ap, _∙_}
-use mathlib.Core.Bool.{Bool, true, false, not}
-use mathlib.Core.List.{List, [], _∷_, _++_, append-assoc}
-use Prim.Native.Nat.{ℕ, _+_, _*_, _/_, _%_, _≤_, _<_}
+use mathlib.Core.Bool.{Bool, true, false}
+use mathlib.Core.List.{List}
+use Prim.Native.Nat.{ℕ, _/_, _≤_}
 use native.Mathlib.Omega.{arith}
 use native.Mathlib.Nat.{zero-add}
-use lib.Dec.{eqb, ltb}
-use lib.ListN.{length, take, drop, take-append-drop}
-use lib.Seq.{length-take-le, drop-append-le}
-use borrow.Author.Tests.{le-ltb, ltb-false}
-use borrow.Rule.Slice.PartMut.{putMid}
+use lib.Dec.{ltb}
+use lib.ListN.{length, take}
+use borrow.Author.Tests.{ltb-false}
 use Rattle.lists.specs.Wrote.{Wrote}
 use Rattle.lists.proofs.Writing.{wrote-there}
 use Rattle.refusals.specs.Verdict.{Verdict, accepted, refused, number, place, refuse, andThen}
 use Rattle.refusals.specs.Told as R
-use Rattle.refusals.specs.Outcome.{Answers, verdict}
+use Rattle.refusals.specs.Outcome.{Answers}
 use Rattle.refusals.specs.declared.Refusal.{Refusal}
 use Rattle.refusals.specs.declared.Answer.{Answer}
 use Rattle.refusals.specs.declared.Answer.the-variants.{Accepted, Refused}
 use Rattle.refusals.proofs.Answering.{refused-told, handed-up, refuse-accepted}
-use Rattle.puzzles.specs.Puzzle.{Puzzle}
 use Rattle.puzzles.specs.Checks.{puzzle, puzzleChecks}
 use Rattle.counts.specs.Families.{buffer}
-use Rattle.encode.specs.Encode.{wordsOf, inputChecks, textOf, roomChecks, programChecks, refusedText, told, encoded}
-use Rattle.encode.specs.Steps.{bufferChecks, wordsChecks, bytesChecks}
+use Rattle.encode.specs.Encode.{wordsOf, inputChecks, textOf, programChecks, refusedText, told, encoded}
+use Rattle.encode.specs.Steps.{wordsChecks, bytesChecks}
 use Rattle.encode.proofs.InputWords.{words-many}
 use Rattle.encode.proofs.Called.{refused-kept, accepted-room, accepted-wrote}
 
