@@ -1,11 +1,7 @@
 // The base program: a puzzle's words from standard input, its DIMACS text or a refusal to standard output.
-mod program;
-mod refused;
-mod words;
-
+use encoding::program::encode;
 use libc::STDIN_FILENO;
 use libc::STDOUT_FILENO;
-use program::encode;
 ghost use mathlib.Core.Path.{_≡_};
 ghost use lib.ListN.{length};
 

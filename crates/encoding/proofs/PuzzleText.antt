@@ -1,0 +1,99 @@
+-- From a puzzle's words to the text: its refusals, 12 by clause words, and the call `dimacs` on the clause buffer, which is accepted.
+use mathlib.Core.Path.{_≡_, refl, ap, _∙_}
+use mathlib.Core.Bool.{true}
+use mathlib.Core.List.{List, [], _∷_}
+use Prim.Native.Nat.{ℕ, _≤_}
+use native.Mathlib.Omega.{arith}
+use native.Mathlib.Nat.{zero-add}
+use lib.Dec.{ltb}
+use lib.IntN.{ℤ}
+use lib.ListN.{length, take, getD}
+use borrow.Author.Tests.{le-ltb}
+use Rattle.lists.proofs.Writing.{wrote-there, wrote-at}
+use Rattle.refusals.specs.Verdict.{accepted, andThen}
+use Rattle.refusals.specs.Told.{told}
+use Rattle.refusals.specs.Outcome.{Answers}
+use Rattle.refusals.specs.declared.Refusal.{Refusal}
+use Rattle.refusals.specs.declared.Answer.{Answer}
+use Rattle.refusals.specs.declared.Answer.the-variants.{Accepted, Refused}
+use Rattle.refusals.proofs.Answering.{handed-up, told-refused, answers-checked}
+use Rattle.sections.specs.Sections.{Clause}
+use Rattle.puzzles.specs.Puzzle.{Puzzle}
+use Rattle.puzzles.specs.Good.{Good}
+use Rattle.puzzles.specs.Checks.{puzzle, puzzleChecks}
+use Rattle.puzzles.proofs.Accepting.{accepted-is}
+use Rattle.numbering.specs.Variables.{variables}
+use Rattle.numbering.proofs.Bounds.{variables-most}
+use Rattle.counts.specs.Families.{families, joined, clauses, buffer, countsOf}
+use Rattle.dimacs.specs.Walk.{wordChecks, together, clausesOf}
+use Rattle.dimacs.specs.Text.{text}
+use Rattle.dimacs.proofs.Accepting.{words-accepted, words-hold}
+use Rattle.encoding.specs.Encode.{textOf}
+use Rattle.encoding.specs.Steps.{bufferChecks, wordsChecks}
+use Rattle.encoding.proofs.ClauseVariables.{families-fine}
+use Rattle.encoding.proofs.Called.{refused-by, accepted-room, accepted-wrote}
+
+together-joined : (ss : List (List Clause)) → together ss ≡ joined ss
+unfolding together joined
+together-joined [] = refl
+together-joined (s ∷ ss) = rw (together-joined ss)
+
+module _ (z : Puzzle) (G : Good z) (few : length (buffer z) ≤ 16384) where
+  ten : length (families z) ≡ 10
+  unfolding families
+  ten = refl
+
+  buffer-accepted : accepted (length (buffer z)) ≡ wordChecks (variables z) 10 (buffer z)
+  buffer-accepted = words-accepted (variables z) 10 (families z) (omega (arith, variables-most z G)) (omega arith) (omega arith) ten (families-fine z G)
+
+  buffer-holds : clausesOf (variables z) 10 (buffer z) ≡ clauses z
+  buffer-holds = words-hold (variables z) 10 (families z) (omega (arith, variables-most z G)) (omega arith) (omega arith) ten (families-fine z G) ∙ together-joined (families z)
+
+module _ (ws : List ℕ) where
+  -- ---- the call `counts`
+
+  thirteen : length (countsOf (puzzle ws)) ≡ 13
+  unfolding countsOf families
+  thirteen = refl
+
+  module _ {out out′ : List ℕ} {a : Answer} (given : Answers (puzzleChecks ws) (countsOf (puzzle ws)) out a out′) (room : length out ≡ 13) where
+    pub counts-refused : {why : Refusal} → a ≡ Refused why → told a ≡ wordsChecks ws
+    counts-refused r = handed-up r (bufferChecks (puzzle ws)) ∙ ap (λ v. andThen v (bufferChecks (puzzle ws))) (refused-by given r (omega (arith, thirteen)))
+
+    pub counts-variables : {used : ℕ} → a ≡ Accepted used → getD out′ 0 0 ≡ variables (puzzle ws)
+    unfolding countsOf
+    counts-variables r = wrote-at (omega arith) (accepted-wrote given r) 0 0 (omega (arith, thirteen))
+
+  -- ---- the call `clauses`, of accepted words
+
+  module _ {m : ℕ} (e : accepted m ≡ puzzleChecks ws) {buf buf′ : List ℤ} {a : Answer} (given : Answers (puzzleChecks ws) (buffer (puzzle ws)) buf a buf′) (room : length buf ≡ 16384) where
+    pub clauses-refused : {why : Refusal} → a ≡ Refused why → told a ≡ wordsChecks ws
+    clauses-refused r =
+        let n = length (buffer (puzzle ws)) in
+        let t = told-refused (ltb (length buf) n) 12 n n r (given .answer-is ∙ rw (← e)) in
+        let b : ltb 16384 n ≡ true = rw room at (t .0) in
+        t .1 ∙ rw (← e, b)
+
+    module _ {used : ℕ} (r : a ≡ Accepted used) where
+      few : length (buffer (puzzle ws)) ≤ 16384
+      few = rw room at (accepted-room given r)
+
+      used-is : used ≡ length (buffer (puzzle ws))
+      used-is = accepted-wrote given r .next-is ∙ zero-add (length (buffer (puzzle ws)))
+
+      pub clauses-within : used ≤ 16384
+      clauses-within = omega (arith, used-is, few)
+
+      pub clauses-taken : take used buf′ ≡ buffer (puzzle ws)
+      clauses-taken = rw used-is (wrote-there (omega arith) (accepted-wrote given r))
+
+      -- ---- and the call `dimacs` of them
+
+      pub text-answers : {v : ℕ} → v ≡ variables (puzzle ws) → {us : List ℤ} → us ≡ buffer (puzzle ws) → {out out′ : List ℕ} {b : Answer}
+          → Answers (wordChecks v 10 us) (text v (clausesOf v 10 us)) out b out′ → Answers (wordsChecks ws) (textOf (puzzle ws)) out b out′
+      text-answers v-is us-is x =
+          let z = puzzle ws in
+          let G = accepted-is ws e .good in
+          let y : Answers (accepted (length (buffer z))) (textOf z) _ _ _ = rw (v-is, us-is, ← buffer-accepted z G few, buffer-holds z G few) at x in
+          let c : accepted 0 ≡ wordsChecks ws = rw (← e, le-ltb _ _ few) in
+          answers-checked _ _ c y

@@ -1,0 +1,91 @@
+-- From the bytes of the input to the answer of the program, and from that to what it writes.
+use mathlib.Core.Path.{_≡_, refl, sym, ap, _∙_}
+use mathlib.Core.Bool.{Bool, true, false}
+use mathlib.Core.List.{List}
+use Prim.Native.Nat.{ℕ, _/_, _≤_}
+use native.Mathlib.Omega.{arith}
+use native.Mathlib.Nat.{zero-add}
+use lib.Dec.{ltb}
+use lib.ListN.{length, take}
+use borrow.Author.Tests.{ltb-false}
+use Rattle.lists.specs.Wrote.{Wrote}
+use Rattle.lists.proofs.Writing.{wrote-there}
+use Rattle.refusals.specs.Verdict.{Verdict, accepted, refused, number, place, refuse, andThen}
+use Rattle.refusals.specs.Told as R
+use Rattle.refusals.specs.Outcome.{Answers}
+use Rattle.refusals.specs.declared.Refusal.{Refusal}
+use Rattle.refusals.specs.declared.Answer.{Answer}
+use Rattle.refusals.specs.declared.Answer.the-variants.{Accepted, Refused}
+use Rattle.refusals.proofs.Answering.{refused-told, handed-up, refuse-accepted}
+use Rattle.puzzles.specs.Checks.{puzzle, puzzleChecks}
+use Rattle.counts.specs.Families.{buffer}
+use Rattle.encoding.specs.Encode.{wordsOf, inputChecks, textOf, programChecks, refusedText, told, encoded}
+use Rattle.encoding.specs.Steps.{wordsChecks, bytesChecks}
+use Rattle.encoding.proofs.InputWords.{words-many}
+use Rattle.encoding.proofs.Called.{refused-kept, accepted-room, accepted-wrote}
+
+-- ---- the bytes
+
+module _ (bytes : List ℕ) where
+  pub input-refused : {a : Answer} {why : Refusal} → a ≡ Refused why → R.told a ≡ inputChecks bytes → R.told a ≡ bytesChecks bytes
+  input-refused r e = handed-up r (wordsChecks (wordsOf bytes)) ∙ ap (λ v. andThen v (wordsChecks (wordsOf bytes))) e
+
+  module _ {a : Answer} {n : ℕ} (r : a ≡ Accepted n) (e : R.told a ≡ inputChecks bytes) where
+    input-accepted : accepted n ≡ inputChecks bytes
+    input-accepted = sym (ap R.told r) ∙ e
+
+    -- there is room for their words
+    pub input-few : length bytes / 4 ≤ 16384
+    input-few = let h : length bytes ≤ 65536 = ltb-false _ _ (refuse-accepted (ltb 65536 (length bytes)) _ _ _ input-accepted .0) in omega arith
+
+    pub input-answers : {ws : List ℕ} → ws ≡ wordsOf bytes → {out out′ : List ℕ} {b : Answer}
+        → Answers (wordsChecks ws) (textOf (puzzle ws)) out b out′ → Answers (bytesChecks bytes) (textOf (puzzle (wordsOf bytes))) out b out′
+    input-answers w x =
+        let c : wordsChecks (wordsOf bytes) ≡ bytesChecks bytes = rw (← input-accepted) in
+        rw (← c) (rw w at x)
+
+  -- `&words[..n]`, where they were written
+  module _ {buf buf′ : List ℕ} {n : ℕ} (w : Wrote (wordsOf bytes) buf 0 buf′ n) where
+    n-is : n ≡ length (wordsOf bytes)
+    n-is = w .next-is ∙ zero-add (length (wordsOf bytes))
+
+    pub words-count : n ≡ length bytes / 4
+    words-count = n-is ∙ words-many bytes
+
+    pub words-taken : take n buf′ ≡ wordsOf bytes
+    words-taken = rw n-is (wrote-there (omega arith) w)
+
+  -- ---- what is told
+
+  abbrev ofText : List ℕ
+  ofText = textOf (puzzle (wordsOf bytes))
+
+  -- all refusals in one row
+  row : (v u : Verdict) (b : Bool) (w : Verdict) (k p : ℕ) → andThen (andThen v (andThen u (refuse b k p (accepted 0)))) w ≡ andThen v (andThen u (refuse b k p w))
+  row (refused j q) u b w k p = refl
+  row (accepted n) (refused j q) b w k p = refl
+  row (accepted n) (accepted m) true w k p = refl
+  row (accepted n) (accepted m) false w k p = refl
+
+  module _ {out out′ : List ℕ} (room : 65536 ≡ length out) {a : Answer} (given : Answers (bytesChecks bytes) ofText out a out′) where
+    program-is : R.told a ≡ programChecks bytes
+    unfolding programChecks
+    program-is =
+        let n = length (buffer (puzzle (wordsOf bytes))) in
+        given .answer-is ∙ row (inputChecks bytes) (puzzleChecks (wordsOf bytes)) (ltb 16384 n) _ 12 n ∙ rw (← room)
+
+    module _ {used : ℕ} (r : a ≡ Accepted used) where
+      pub text-told : Wrote (encoded bytes) out 0 out′ used
+      unfolding told
+      text-told = rw (← program-is, r) (accepted-wrote given r)
+
+      pub text-within : used ≤ 65536
+      text-within = omega (arith, accepted-room given r, accepted-wrote given r .next-is)
+
+    module _ {why : Refusal} (r : a ≡ Refused why) {k p : ℕ} (k-is : k ≡ number (R.told a)) (p-is : p ≡ place (R.told a)) where
+      pub refusal-told : {out″ : List ℕ} {n : ℕ} → Wrote (refusedText k p) out′ 0 out″ n → Wrote (encoded bytes) out 0 out″ n
+      unfolding told
+      refusal-told w =
+          let s = refused-told r in
+          let f : encoded bytes ≡ refusedText k p = rw (← program-is, k-is, p-is, s) in
+          rw (f, ← refused-kept given r) w
