@@ -502,11 +502,10 @@ def encode(data):
 
 
 def checksum(data):
-    """FNV-1a, of 32 bits."""
-    h = 2166136261
+    total = 7
     for byte in data:
-        h = (h ^ byte) * 16777619 % 2 ** 32
-    return h
+        total = (31 * total + byte) % 4294967291
+    return total
 
 
 # ---- grids

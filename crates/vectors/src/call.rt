@@ -1,5 +1,6 @@
 // A call of an entry, with the length of the buffer that it is lent and its other numbers.
 use crate::dimacs;
+use crate::encode;
 use crate::entry::Entry;
 use crate::model;
 use crate::number::at_most;
@@ -34,6 +35,7 @@ pub fn call(entry: Entry, room: u32, args: &[u32]) {
         Entry::Blocking => model::parted(entry, index(room), args),
         Entry::Probes => model::parted(entry, index(room), args),
         Entry::Dimacs => dimacs::text(index(room), args),
+        Entry::Encode => encode::answer(index(room), args),
         _ => lend(entry, index(room), args, &bytes, n),
     }
 }

@@ -13,6 +13,7 @@ pub enum Entry {
     Blocking,
     Probes,
     Dimacs,
+    Encode,
     Puzzle,
     Unknown,
 }
@@ -56,6 +57,9 @@ pub fn named(name: &[u8]) -> Entry {
     }
     if check::same(name, b"dimacs") {
         return Entry::Dimacs;
+    }
+    if check::same(name, b"encode") {
+        return Entry::Encode;
     }
     if check::same(name, b"puzzle") {
         return Entry::Puzzle;

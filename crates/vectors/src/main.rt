@@ -2,6 +2,7 @@
 // What must come out is stored, so that every number, place and word is compared, those that must stay untouched too.
 mod call;
 mod dimacs;
+mod encode;
 mod entry;
 mod model;
 mod number;
