@@ -24,6 +24,7 @@ const BYTES: usize = 65536;
 // The sections of a clause buffer.
 const SECTIONS: usize = 10;
 
+// The most clause words that it holds.
 fn clause_buffer() -> [i32; 16384]
     ensures { λ r. ⌜ 16384 ≡ length r ⌝ }
 {
