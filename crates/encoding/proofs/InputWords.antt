@@ -1,5 +1,5 @@
 -- The loop that makes words of bytes.
-use mathlib.Core.Path.{_≡_, refl, ap}
+use mathlib.Core.Path.{_≡_, refl, ap, _∙_}
 use mathlib.Core.List.{List, [], _∷_}
 use Prim.Native.Nat.{ℕ, _+_, _*_, _/_, _≤_, _<_}
 use native.Mathlib.Omega.{arith}
@@ -10,6 +10,7 @@ use Rattle.lists.proofs.Emitting.{Emitting, emit-first, emit-room, emit-next, e
 use Rattle.lists.proofs.Writing.{wrote-store}
 use Rattle.lists.specs.Each.{each, tab}
 use Rattle.encoding.specs.Encode.{wordsOf}
+use Rattle.encoding.proofs.Fronts.{front-size}
 
 -- what turn i writes
 abbrev pub wordAt : List ℕ → ℕ → List ℕ
@@ -19,7 +20,7 @@ words-each : (bytes : List ℕ) → wordsOf bytes ≡ each (length bytes / 4) (w
 unfolding wordsOf tab
 words-each bytes = refl
 
-pub words-many : (bytes : List ℕ) → length (wordsOf bytes) ≡ length bytes / 4
+words-many : (bytes : List ℕ) → length (wordsOf bytes) ≡ length bytes / 4
 unfolding wordsOf
 words-many bytes = length-tab (length bytes / 4) _
 
@@ -33,3 +34,7 @@ module _ (bytes : List ℕ) where
 
     pub words-done : length bytes / 4 ≤ i → Wrote (wordsOf bytes) out₀ 0 out (length bytes / 4)
     words-done h = let e : i ≡ length bytes / 4 = omega (arith, E .within) in rw (words-each bytes) (rw e at (emit-done E h))
+
+  -- how many they are
+  pub words-count : {out out₁ : List ℕ} {n : ℕ} → Wrote (wordsOf bytes) out 0 out₁ n → n ≡ length bytes / 4
+  words-count w = front-size w ∙ words-many bytes

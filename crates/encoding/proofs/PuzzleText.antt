@@ -4,12 +4,11 @@ use mathlib.Core.Bool.{true}
 use mathlib.Core.List.{List, [], _∷_}
 use Prim.Native.Nat.{ℕ, _≤_}
 use native.Mathlib.Omega.{arith}
-use native.Mathlib.Nat.{zero-add}
 use lib.Dec.{ltb}
 use lib.IntN.{ℤ}
 use lib.ListN.{length, take, getD}
 use borrow.Author.Tests.{le-ltb}
-use Rattle.lists.proofs.Writing.{wrote-there, wrote-at}
+use Rattle.lists.proofs.Writing.{wrote-at}
 use Rattle.refusals.specs.Verdict.{accepted, andThen}
 use Rattle.refusals.specs.Told.{told}
 use Rattle.refusals.specs.Outcome.{Answers}
@@ -30,6 +29,7 @@ use Rattle.dimacs.specs.Text.{text}
 use Rattle.dimacs.proofs.Accepting.{words-accepted, words-hold}
 use Rattle.encoding.specs.Encode.{textOf}
 use Rattle.encoding.specs.Steps.{bufferChecks, wordsChecks}
+use Rattle.encoding.proofs.Fronts.{front-size, front-is}
 use Rattle.encoding.proofs.ClauseVariables.{families-fine}
 use Rattle.encoding.proofs.Called.{refused-by, accepted-room, accepted-wrote}
 
@@ -78,22 +78,16 @@ module _ (ws : List ℕ) where
       few : length (buffer (puzzle ws)) ≤ 16384
       few = rw room at (accepted-room given r)
 
-      used-is : used ≡ length (buffer (puzzle ws))
-      used-is = accepted-wrote given r .next-is ∙ zero-add (length (buffer (puzzle ws)))
-
       pub clauses-within : used ≤ 16384
-      clauses-within = omega (arith, used-is, few)
-
-      pub clauses-taken : take used buf′ ≡ buffer (puzzle ws)
-      clauses-taken = rw used-is (wrote-there (omega arith) (accepted-wrote given r))
+      clauses-within = omega (arith, front-size (accepted-wrote given r), few)
 
       -- ---- and the call `dimacs` of them
 
-      pub text-answers : {v : ℕ} → v ≡ variables (puzzle ws) → {us : List ℤ} → us ≡ buffer (puzzle ws) → {out out′ : List ℕ} {b : Answer}
-          → Answers (wordChecks v 10 us) (text v (clausesOf v 10 us)) out b out′ → Answers (wordsChecks ws) (textOf (puzzle ws)) out b out′
-      text-answers v-is us-is x =
+      pub text-answers : {v : ℕ} → v ≡ variables (puzzle ws) → {out out′ : List ℕ} {b : Answer}
+          → Answers (wordChecks v 10 (take used buf′)) (text v (clausesOf v 10 (take used buf′))) out b out′ → Answers (wordsChecks ws) (textOf (puzzle ws)) out b out′
+      text-answers v-is x =
           let z = puzzle ws in
           let G = accepted-is ws e .good in
-          let y : Answers (accepted (length (buffer z))) (textOf z) _ _ _ = rw (v-is, us-is, ← buffer-accepted z G few, buffer-holds z G few) at x in
+          let y : Answers (accepted (length (buffer z))) (textOf z) _ _ _ = rw (v-is, front-is (accepted-wrote given r), ← buffer-accepted z G few, buffer-holds z G few) at x in
           let c : accepted 0 ≡ wordsChecks ws = rw (← e, le-ltb _ _ few) in
           answers-checked _ _ c y

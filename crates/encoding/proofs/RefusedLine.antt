@@ -12,12 +12,12 @@ use Rattle.encoding.specs.Encode.{refusedText}
 use Rattle.encoding.specs.Steps.{refusedWord, atWord}
 
 module _ (k p : ℕ) where
-  -- what comes behind the first number, and behind ` at `
-  abbrev behind : List ℕ
-  behind = atWord ++ (digits p ++ (newline ∷ []))
-
+  -- what comes behind ` at `, and behind the first number
   abbrev last : List ℕ
   last = digits p ++ (newline ∷ [])
+
+  abbrev behind : List ℕ
+  behind = atWord ++ last
 
   pub refused-few : k < 2 ^ 64 → p < 2 ^ 64 → length (refusedText k p) ≤ 53
   unfolding refusedText
@@ -52,8 +52,8 @@ module _ (k p : ℕ) where
           pub newline-room : end < length out₄
           newline-room = fill-space filled₄
 
-          pub refused-kept : length out₄ ≡ length out
-          refused-kept = fill-kept filled₄
+          pub line-kept : length out₄ ≡ length out
+          line-kept = fill-kept filled₄
 
           pub refused-wrote : Wrote (refusedText k p) out 0 (set out₄ end newline) (end + 1)
           refused-wrote = fill-done (fill-store filled₄) refl

@@ -4,12 +4,10 @@ use mathlib.Core.Bool.{Bool, true, false}
 use mathlib.Core.List.{List}
 use Prim.Native.Nat.{ℕ, _/_, _≤_}
 use native.Mathlib.Omega.{arith}
-use native.Mathlib.Nat.{zero-add}
 use lib.Dec.{ltb}
-use lib.ListN.{length, take}
+use lib.ListN.{length}
 use borrow.Author.Tests.{ltb-false}
 use Rattle.lists.specs.Wrote.{Wrote}
-use Rattle.lists.proofs.Writing.{wrote-there}
 use Rattle.refusals.specs.Verdict.{Verdict, accepted, refused, number, place, refuse, andThen}
 use Rattle.refusals.specs.Told as R
 use Rattle.refusals.specs.Outcome.{Answers}
@@ -21,7 +19,6 @@ use Rattle.puzzles.specs.Checks.{puzzle, puzzleChecks}
 use Rattle.counts.specs.Families.{buffer}
 use Rattle.encoding.specs.Encode.{wordsOf, inputChecks, textOf, programChecks, refusedText, told, encoded}
 use Rattle.encoding.specs.Steps.{wordsChecks, bytesChecks}
-use Rattle.encoding.proofs.InputWords.{words-many}
 use Rattle.encoding.proofs.Called.{refused-kept, accepted-room, accepted-wrote}
 
 -- ---- the bytes
@@ -43,17 +40,6 @@ module _ (bytes : List ℕ) where
     input-answers w x =
         let c : wordsChecks (wordsOf bytes) ≡ bytesChecks bytes = rw (← input-accepted) in
         rw (← c) (rw w at x)
-
-  -- `&words[..n]`, where they were written
-  module _ {buf buf′ : List ℕ} {n : ℕ} (w : Wrote (wordsOf bytes) buf 0 buf′ n) where
-    n-is : n ≡ length (wordsOf bytes)
-    n-is = w .next-is ∙ zero-add (length (wordsOf bytes))
-
-    pub words-count : n ≡ length bytes / 4
-    words-count = n-is ∙ words-many bytes
-
-    pub words-taken : take n buf′ ≡ wordsOf bytes
-    words-taken = rw n-is (wrote-there (omega arith) w)
 
   -- ---- what is told
 

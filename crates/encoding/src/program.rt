@@ -1,6 +1,7 @@
 // From the bytes that were read to those that are written.
 use crate::refused::put_refused;
 use crate::words::read_words;
+use crate::words::word_buffer;
 use clauses::call::clauses;
 use counts::call::counts;
 use dimacs::call::dimacs;
@@ -23,18 +24,14 @@ const BYTES: usize = 65536;
 // The sections of a clause buffer.
 const SECTIONS: usize = 10;
 
-fn word_buffer() -> [u32; 16384]
-    ensures { λ r. ⌜ 16384 ≡ length r ⌝ }
-{
-    [0; 16384]
-}
-
+// The most clause words that it holds.
 fn clause_buffer() -> [i32; 16384]
     ensures { λ r. ⌜ 16384 ≡ length r ⌝ }
 {
     [0; 16384]
 }
 
+// 23.
 fn check_input(input: &[u8]) -> Answer
     ensures { λ r. ⌜ told r ≡ inputChecks (now (input .entry)) ⌝ }
 {
@@ -47,7 +44,7 @@ fn check_input(input: &[u8]) -> Answer
     Answer::Accepted(0)
 }
 
-// The DIMACS text of a puzzle's clauses.
+// The DIMACS text of a puzzle's clauses: its own refusals, 12 by words, 12 by bytes.
 fn write_puzzle(words: &[u32], out: &mut [u8]) -> Answer
     ensures { λ r. ⌜ Answers (wordsChecks (now (words .entry))) (textOf (puzzle (now (words .entry)))) (now (out .entry)) r (now (out .exit)) ⌝ }
 {
@@ -64,6 +61,7 @@ fn write_puzzle(words: &[u32], out: &mut [u8]) -> Answer
     dimacs(numbers[0] as usize, SECTIONS, &buffer[..n], out)
 }
 
+// The same, of the bytes that hold its words.
 fn write_input(input: &[u8], out: &mut [u8]) -> Answer
     ensures { λ r. ⌜ Answers (bytesChecks (now (input .entry))) (textOf (puzzle (wordsOf (now (input .entry))))) (now (out .entry)) r (now (out .exit)) ⌝ }
 {

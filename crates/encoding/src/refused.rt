@@ -6,6 +6,7 @@ ghost use Rattle.lists.specs.Wrote.{Wrote};
 ghost use Rattle.encoding.specs.Encode.{refusedText};
 ghost use Rattle.encoding.specs.Steps.{refusedWord, atWord};
 
+// `refused `
 fn put_word(out: &mut [u8]) -> usize
     requires { ⌜ 8 ≤ length (now out) ⌝ }
     ensures { λ r. ⌜ Wrote refusedWord (now (out .entry)) 0 (now (out .exit)) r ⌝ }
@@ -21,6 +22,7 @@ fn put_word(out: &mut [u8]) -> usize
     8
 }
 
+// ` at `
 fn put_at(out: &mut [u8], to: usize) -> usize
     requires { ⌜ to + 4 ≤ length (now out) ⌝ }
     ensures { λ r. ⌜ Wrote atWord (now (out .entry)) to (now (out .exit)) r ⌝ }

@@ -5,6 +5,13 @@ ghost use lib.ListN.{length};
 ghost use Rattle.lists.specs.Wrote.{Wrote};
 ghost use Rattle.encoding.specs.Encode.{wordsOf};
 
+// As many as the longest input holds.
+pub fn word_buffer() -> [u32; 16384]
+    ensures { λ r. ⌜ 16384 ≡ length r ⌝ }
+{
+    [0; 16384]
+}
+
 // Low byte first.
 fn word(a: u8, b: u8, c: u8, d: u8) -> u32
     ensures { λ r. ⌜ r ≡ a + 256 * b + 65536 * c + 16777216 * d ⌝ }

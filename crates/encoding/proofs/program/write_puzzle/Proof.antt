@@ -3,7 +3,7 @@ use native.Mathlib.Omega.{arith}
 use lib.Seq.{length-take-le}
 use Rattle.refusals.proofs.Answering.{answers-refused}
 use Rattle.encoding.proofs.Called.{accepted-checks}
-use Rattle.encoding.proofs.PuzzleText.{counts-refused, counts-variables, clauses-refused, clauses-within, clauses-taken, text-answers}
+use Rattle.encoding.proofs.PuzzleText.{counts-refused, counts-variables, clauses-refused, clauses-within, text-answers}
 use borrow.Author.Needs.{needs}
 use Rattle.encoding.proofs.program.write_puzzle.Statement.{statement}
 use Rattle.encoding.proofs.program.write_puzzle.Tie as tie
@@ -28,4 +28,4 @@ write-puzzle-spec =
     (λ c. sym (length-take-le _ _ (omega (arith, clauses-within (c .before .before .before .before .before .before .before .before .before .before .before .before .before .before .before .args .words .now) (accepted-checks (c .before .before .before .before .before .before .before .before .before .before .before .counts .ensures) (c .before .before .before .before .before .before .before .before .enum-told .given .1) .1) (c .before .before .before .before .before .clauses .ensures) (sym (c .before .before .before .before .before .before .before .clause-buffer .ensures)) (c .before .before .written .given .1), c .before .before .before .before .before .clauses .kept .1 .0, c .before .before .before .before .before .before .before .clause-buffer .ensures))))
     (λ c κs. search needs)
     (λ c. search needs)
-    (λ c. text-answers (c .before .before .before .before .before .before .before .before .before .before .before .before .before .before .before .before .before .before .before .args .words .now) (accepted-checks (c .before .before .before .before .before .before .before .before .before .before .before .before .before .before .before .counts .ensures) (c .before .before .before .before .before .before .before .before .before .before .before .before .enum-told .given .1) .1) (c .before .before .before .before .before .before .before .before .before .clauses .ensures) (sym (c .before .before .before .before .before .before .before .before .before .before .before .clause-buffer .ensures)) (c .before .before .before .before .before .before .written .given .1) (counts-variables (c .before .before .before .before .before .before .before .before .before .before .before .before .before .before .before .before .before .before .before .args .words .now) (c .before .before .before .before .before .before .before .before .before .before .before .before .before .before .before .counts .ensures) refl (c .before .before .before .before .before .before .before .before .before .before .before .before .enum-told .given .1)) (clauses-taken (c .before .before .before .before .before .before .before .before .before .before .before .before .before .before .before .before .before .before .before .args .words .now) (accepted-checks (c .before .before .before .before .before .before .before .before .before .before .before .before .before .before .before .counts .ensures) (c .before .before .before .before .before .before .before .before .before .before .before .before .enum-told .given .1) .1) (c .before .before .before .before .before .before .before .before .before .clauses .ensures) (sym (c .before .before .before .before .before .before .before .before .before .before .before .clause-buffer .ensures)) (c .before .before .before .before .before .before .written .given .1)) (c .before .before .dimacs .ensures)))
+    (λ c. text-answers (c .before .before .before .before .before .before .before .before .before .before .before .before .before .before .before .before .before .before .before .args .words .now) (accepted-checks (c .before .before .before .before .before .before .before .before .before .before .before .before .before .before .before .counts .ensures) (c .before .before .before .before .before .before .before .before .before .before .before .before .enum-told .given .1) .1) (c .before .before .before .before .before .before .before .before .before .clauses .ensures) (sym (c .before .before .before .before .before .before .before .before .before .before .before .clause-buffer .ensures)) (c .before .before .before .before .before .before .written .given .1) (counts-variables (c .before .before .before .before .before .before .before .before .before .before .before .before .before .before .before .before .before .before .before .args .words .now) (c .before .before .before .before .before .before .before .before .before .before .before .before .before .before .before .counts .ensures) refl (c .before .before .before .before .before .before .before .before .before .before .before .before .enum-told .given .1)) (c .before .before .dimacs .ensures)))
