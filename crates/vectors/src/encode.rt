@@ -14,13 +14,22 @@ pub fn answer(room: usize, args: &[u32]) {
     let mut input = input_buffer();
     let n = as_input(&args[1..], &mut input);
     let more = at_most(index(args[0]), 70000 - n);
-    tell(&input[..n + more], room);
+    tell(&input, n + more, room);
 }
 
-fn tell(input: &[u8], room: usize) {
+fn tell(bytes: &[u8], n: usize, room: usize)
+    requires { ⌜ n ≤ length (now bytes) ⌝ }
+{
     let mut out = output_buffer();
-    let n = encode(input, &mut out);
-    show_bytes(checksum(&out[..n]), n, &out[..at_most(room, n)]);
+    let used = encode(&bytes[0..n], &mut out);
+    show_front(&out, at_most(used, 65536), room);
+}
+
+// The first n bytes: their checksum, and as many of them as there is room for.
+fn show_front(bytes: &[u8], n: usize, room: usize)
+    requires { ⌜ n ≤ length (now bytes) ⌝ }
+{
+    show_bytes(checksum(&bytes[0..n]), n, &bytes[0..at_most(room, n)]);
 }
 
 // More than the program takes.
