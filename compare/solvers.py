@@ -4,7 +4,7 @@
 
 Of each board, and with each of three solvers: the clauses as text; a model; the picture that `check_model` writes of it; the clause that `blocking` writes of it, in an eleventh
 section; and so on, until the solver finds no more. Small boards: the pictures must be those of a brute force over all grids. With a section of random probes in a twelfth, they
-must be those pictures in which the probes' impacts hold. Large boards, made from a known picture: every picture found must read as the same clues, no two may be the same, and where
+must be those pictures in which the probes' impacts hold. The program `encode`, given the puzzle through a pipe in two pieces, must write the same text of the ten sections. Large boards, made from a known picture: every picture found must read as the same clues, no two may be the same, and where
 the solver finds no more, the known picture must be among them. Ends at the first wrong answer, with status 1.
 """
 import ctypes
@@ -58,6 +58,25 @@ def solve(solver, text):
     else:
         words = [word for line in run.stdout.splitlines() if line.startswith("v") for word in line.split()[1:]]
     return {int(word) for word in words if int(word) > 0}
+
+
+def program(puzzle):
+    """What the program writes, of words that come in two pieces."""
+    data = b"".join(word.to_bytes(4, "little") for word in puzzle)
+    run = subprocess.Popen(["target/bin/encode"], stdin=subprocess.PIPE, stdout=subprocess.PIPE)
+    run.stdin.write(data[:7])
+    run.stdin.flush()
+    return run.communicate(data[7:])[0]
+
+
+def check_program(puzzle):
+    counts = must("counts", [], [(U32, puzzle)], U64)
+    text = bytes(must("dimacs", [counts[0], 10], [(I32, must("clauses", [], [(U32, puzzle)], I32))], U8))
+    if counts[12] > 16384:
+        text = b"refused 12 at %d\n" % counts[12]
+    elif len(text) > 65536:
+        text = b"refused 12 at %d\n" % len(text)
+    expect(program(puzzle) == text, f"the program writes another text of {puzzle}")
 
 
 def pictures(solver, puzzle, probes=None, most=None):
@@ -142,6 +161,7 @@ def small_boards(r, count):
     for _ in range(count):
         width, height, K, puzzle, every = random_small(r)
         probes, implied = random_probes(r, width, height, K)
+        check_program(puzzle)
         for solver in SOLVERS:
             got, whole = pictures(solver, puzzle)
             expect(whole and sorted(got) == sorted(every), f"{solver}, {puzzle}: {got} for {every}")
@@ -168,6 +188,7 @@ def large_boards(r):
     for width, height, colors in [(10, 10, 1), (15, 15, 2), (20, 20, 4), (25, 25, 1), (25, 25, 3), (30, 20, 31)]:
         cells = blobs(r, width, height, colors)
         puzzle = must("read_grid", [width, height], [(U8, cells)], U32)
+        check_program(puzzle)
         for solver in SOLVERS:
             found, whole = pictures(solver, puzzle, most=4)
             for picture in found:
