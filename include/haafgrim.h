@@ -1,7 +1,7 @@
 /* Haafgrim: the checked core of puzzle publishing. Link with libhaafgrim.a (`rt staticlib haafgrim`).
  *
  * Every entry takes any input at all and needs no earlier call. It answers a number and, through `place`, a place:
- *   0        accepted; the place is how many words were written, from the front of `out` on, and the rest of `out` is as it was;
+ *   0        accepted; the place is how many words or bytes were written, from the front of `out` on, and the rest of `out` is as it was;
  *   others   refused, with the number and the place of the table in docs/STATEMENTS.md; nothing of `out` is changed.
  * `*place` is set on every answer.
  *
@@ -59,7 +59,7 @@ uint32_t haafgrim_counts(const uint32_t *puzzle, size_t puzzle_len, uint64_t *ou
 
 /* A model is one byte, 0 or 1, for each variable of the puzzle, from 1 on. Accepts it exactly when every clause of the ten sections is true, and then writes the
  * picture that it shows: one colour byte for each cell, row by row, 0 for blank. Needs width times height bytes (4,096 are always enough).
- * Refuses: those of haafgrim_clauses, then 13, 14, 15 (at the first false clause, counted from 0 over all sections), 16 (never given: 15 comes before), 12. */
+ * Refuses: those of haafgrim_clauses but 12, then 13, 14, 15 (at the first false clause, counted from 0 over all sections), 16 (never given: 15 comes before), 12. */
 uint32_t haafgrim_check_model(const uint32_t *puzzle, size_t puzzle_len, const uint8_t *model, size_t model_len, uint8_t *out, size_t out_len, size_t *place);
 
 /* Checks the model likewise, and writes the clause that rules its picture out: how many literals it has, then each true variable of a cell negated, ascending.
@@ -68,15 +68,15 @@ uint32_t haafgrim_check_model(const uint32_t *puzzle, size_t puzzle_len, const u
 uint32_t haafgrim_blocking(const uint32_t *puzzle, size_t puzzle_len, const uint8_t *model, size_t model_len, int32_t *out, size_t out_len, size_t *place);
 
 /* Probe words are the number of probes, and for each its x, its y, its colour (0 for blank) and the number of its impacts, then the x, y and colour of each impact.
- * Writes one section, the number of its clauses and then the clauses as haafgrim_clauses does, which a grid satisfies exactly when, wherever a probe's cell has the
- * probe's colour, each of its impacts holds; an impact of a colour that is not in the rows is left out. Needs one word, and at most 1,023 for each impact.
- * Refuses: those of haafgrim_clauses, then 20, 1, 17, 18, 19, 11, 12. */
+ * Writes one section, the number of its clauses and then the clauses as haafgrim_clauses does, which a grid of blanks and colours that cells have variables for satisfies exactly when, wherever a probe's cell has the
+ * probe's colour, each of its impacts holds; an impact of another colour is left out. Needs one word, and at most 1,023 for each impact.
+ * Refuses: those of haafgrim_clauses but 12, then 20, 1, 17, 18, 19, 11, whose places count in the probe words, and 12. */
 uint32_t haafgrim_probes(const uint32_t *puzzle, size_t puzzle_len, const uint32_t *probe, size_t probe_len, int32_t *out, size_t out_len, size_t *place);
 
-/* Clause words as DIMACS CNF text: so many sections, as haafgrim_clauses writes ten of them, of any words whatever. The first line is `p cnf V C`, with the number of variables
- * and that of clauses; then comes a line for each clause, its literals and 0 parted by single spaces; a newline after each line, no comments, no zero byte at the end. The words
- * hold literals of the variables 1 to `variables`; each section's clauses follow those of the section before. Two different formulas never give one text.
- * Refuses: 21 (place 0 for over 1,000,000 variables, 1 for over 16 sections, 2 for over 1,073,741,824 words), 22, 12. */
+/* Clause words as DIMACS CNF text: `sections` sections in the form in which haafgrim_clauses writes ten; any words may be given, and 22 is the answer to all that are not of that form. The first line is `p cnf V C`, with the number of variables
+ * and that of clauses; then comes a line for each clause, its literals and 0 parted by single spaces; a newline after each line, no comments, no zero byte at the end.
+ * Literals are of the variables 1 to `variables`; each section's clauses follow those of the section before. Two different formulas never give one text.
+ * Needs as many bytes as the text has; 12 says how many. Refuses: 21 (place 0 for over 1,000,000 variables, 1 for over 16 sections, 2 for over 1,073,741,824 words), 22, 12. */
 uint32_t haafgrim_dimacs(size_t variables, size_t sections, const int32_t *words, size_t words_len, uint8_t *out, size_t out_len, size_t *place);
 
 #ifdef __cplusplus

@@ -34,6 +34,11 @@ pub fn named(name: &[u8]) -> Entry {
     if check::same(name, b"color_ranges") {
         return Entry::ColorRanges;
     }
+    of_puzzle(name)
+}
+
+// Those of grids and puzzles.
+fn of_puzzle(name: &[u8]) -> Entry {
     if check::same(name, b"read_grid") {
         return Entry::ReadGrid;
     }
@@ -46,6 +51,14 @@ pub fn named(name: &[u8]) -> Entry {
     if check::same(name, b"counts") {
         return Entry::Counts;
     }
+    if check::same(name, b"puzzle") {
+        return Entry::Puzzle;
+    }
+    of_solver(name)
+}
+
+// Those of a solver's input and output.
+fn of_solver(name: &[u8]) -> Entry {
     if check::same(name, b"check_model") {
         return Entry::CheckModel;
     }
@@ -60,9 +73,6 @@ pub fn named(name: &[u8]) -> Entry {
     }
     if check::same(name, b"encode") {
         return Entry::Encode;
-    }
-    if check::same(name, b"puzzle") {
-        return Entry::Puzzle;
     }
     Entry::Unknown
 }
