@@ -152,10 +152,13 @@ static void numbers(void) {
 
 static void limits(void) {
     size_t most = 1073741824, place = 7;
-    int32_t *zeros = mmap(NULL, (most + 1) * sizeof *zeros, PROT_READ, MAP_PRIVATE | MAP_ANONYMOUS | MAP_NORESERVE, -1, 0);
+    int32_t *zeros = mmap(NULL, (most + 1) * sizeof *zeros, PROT_READ | PROT_WRITE, MAP_PRIVATE | MAP_ANONYMOUS | MAP_NORESERVE, -1, 0);
     expect(zeros != MAP_FAILED, "room for the longest words");
     expect(haafgrim_dimacs(3, 16, zeros, most, NULL, 0, &place) == 22 && place == 16, "1,073,741,824 words are walked");
     expect(haafgrim_dimacs(3, 16, zeros, most + 1, NULL, 0, &place) == 21 && place == 2, "one more is 21 at 2");
+    zeros[0] = (int32_t)most - 1;
+    expect(haafgrim_dimacs(3, 1, zeros, most, NULL, 0, &place) == 12 && place == 19 + 2 * (most - 1), "1,073,741,823 empty clauses, a text of over 2^31 bytes");
+    zeros[0] = 0;
     expect(haafgrim_dimacs(3, 17, zeros, most + 1, NULL, 0, &place) == 21 && place == 1, "sections come before words");
     expect(haafgrim_dimacs(1000001, 17, zeros, most + 1, NULL, 0, &place) == 21 && place == 0, "variables come before sections");
     expect(haafgrim_dimacs(1000000, 16, zeros, 16, NULL, 0, &place) == 12 && place == 16, "the limits themselves are accepted");

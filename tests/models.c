@@ -126,7 +126,7 @@ static void show(const struct puzzle *z, const uint8_t *model, uint8_t *cells, i
 }
 
 /* A lent buffer with bytes around it that must stay. */
-static uint8_t around[4 * (CELLS + 64) + 2 * PAD];
+static _Alignas(int32_t) uint8_t around[4 * (CELLS + 64) + 2 * PAD];
 
 static void lend(size_t bytes) {
     memset(around, CANARY, bytes + 2 * PAD);
@@ -225,6 +225,17 @@ static void read_board(size_t width, size_t height) {
     open_puzzle(&board);
 }
 
+/* Masks that the grid obeys: solved with its cell, its cell and another bit, or whole. */
+static void mask_board(void) {
+    size_t cells = board.width * board.height;
+    uint32_t whole = board.words[board.len - 1];
+    for (size_t i = 0; i < cells; i++) {
+        uint32_t own = 1u << grid[i];
+        board.words[board.len - cells + i] = below(3) == 0 ? own : below(2) == 0 ? own | 1u << below(32) : whole;
+    }
+    open_puzzle(&board);
+}
+
 /* All assignments of boards of few variables: as many are accepted as there are pictures. */
 static void every_model(const uint32_t *words, size_t n, unsigned pictures) {
     unsigned accepted = 0;
@@ -264,6 +275,8 @@ static void changed_models(void) {
         size_t width = 1 + below(6), height = 1 + below(6);
         random_grid(width, height, 1 + below(4), 20 + below(70));
         read_board(width, height);
+        if (round % 2 == 0)
+            mask_board();
         model_of(&board, grid, bytes);
         expect(check_model(&board, bytes, board.variables, 1), "the model of a picture is accepted");
         for (size_t i = 0; i < board.variables; i++) {
