@@ -3,11 +3,13 @@
  * Every entry takes any input at all and needs no earlier call. It answers a number and, through `place`, a place:
  *   0        accepted; the place is how many words or bytes were written, from the front of `out` on, and the rest of `out` is as it was;
  *   others   refused, with the number and the place of the table in docs/STATEMENTS.md; nothing of `out` is changed.
- * `*place` is set on every answer.
+ * `*place` is set on every answer. (haafgrim_from_two_powers alone has no buffer and no place: it answers its mask.)
+ * Refusals are listed below in the order in which they are tested; in a walk over words, the first word that offends decides, and so 4 and 5 of a clue
+ * and 1, 2, 3, 4, 5, 7 and 8 of a puzzle go by word.
  *
  * A slice is a pointer and then its length in elements; where the length is 0 the pointer is not used and may be NULL.
  * `place` points to one writable size_t. The lent memory, `out` and `*place`, overlaps neither the inputs nor each other.
- * The entries keep no state: they may run at the same time on different memory.
+ * The entries keep no state and allocate nothing: they may run at the same time on different memory. 64 KiB of stack are enough for each.
  */
 #ifndef HAAFGRIM_H
 #define HAAFGRIM_H
@@ -27,7 +29,7 @@ uint32_t haafgrim_two_powers(uint32_t mask, uint32_t *out, size_t out_len, size_
 uint32_t haafgrim_from_two_powers(const uint32_t *words, size_t words_len);
 
 /* The maximal runs of one non-blank colour in a line of colour bytes (0 is blank), as size and colour pairs.
- * Needs two words a run (64 are always enough). Refuses: 2, 18, 12. */
+ * Needs two words a run (128 are always enough). Refuses: 2, 18, 12. */
 uint32_t haafgrim_read_line(const uint8_t *line, size_t line_len, uint32_t *out, size_t out_len, size_t *place);
 
 /* For a clue, given as a size and a colour for each block, on a line of `length` cells: the positions of each block, the least space,
@@ -70,7 +72,8 @@ uint32_t haafgrim_blocking(const uint32_t *puzzle, size_t puzzle_len, const uint
 /* Probe words are the number of probes, and for each its x, its y, its colour (0 for blank) and the number of its impacts, then the x, y and colour of each impact.
  * Writes one section, the number of its clauses and then the clauses as haafgrim_clauses does, which a grid of blanks and colours that cells have variables for satisfies exactly when, wherever a probe's cell has the
  * probe's colour, each of its impacts holds; an impact of another colour is left out. Needs one word, and at most 1,023 for each impact.
- * Refuses: those of haafgrim_clauses but 12, then 20, 1, 17, 18, 19, 11, whose places count in the probe words, and 12. */
+ * Refuses: those of haafgrim_clauses but 12, then 20, 1, 17, 18, 19, 11, whose places count in the probe words, and 12. A 1 or 11 may be of the puzzle or of the
+ * probe words; where haafgrim_counts accepts the puzzle, it is of the probe words. */
 uint32_t haafgrim_probes(const uint32_t *puzzle, size_t puzzle_len, const uint32_t *probe, size_t probe_len, int32_t *out, size_t out_len, size_t *place);
 
 /* Clause words as DIMACS CNF text: `sections` sections in the form in which haafgrim_clauses writes ten; any words may be given, and 22 is the answer to all that are not of that form. The first line is `p cnf V C`, with the number of variables
