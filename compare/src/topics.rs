@@ -1,0 +1,272 @@
+//! The comparisons: each takes an input and holds the library's answer against the Rust's.
+
+use crate::{
+    puzzle::{clue_words, Puzzle},
+    rust::{self, unless_panic, Claim, Clauses, Encoder, Kind},
+    tally::Tally,
+};
+use haafgrim::{lent, Refusal};
+use nonogrid::block::{binary::BinaryBlock, multicolor::ColoredBlock};
+use std::fmt::Debug;
+
+/// The library's answer in a buffer of a length that is always enough.
+fn within<T: Default + Clone>(room: usize, entry: impl Fn(&mut [T]) -> Result<usize, Refusal>) -> Result<Vec<T>, Refusal> {
+    let mut out = vec![T::default(); room];
+    entry(&mut out).map(|count| out[..count].to_vec())
+}
+
+/// An answer whose refusals stand for panics of the Rust.
+fn answered<T: PartialEq + Debug>(tally: &mut Tally, topic: &str, input: &[u32], ours: Result<Vec<T>, Refusal>, panic: u32, rust: Option<Vec<T>>) {
+    match (ours, rust) {
+        (Ok(ours), Some(rust)) => tally.equal(topic, input, &ours, &rust),
+        (Err(refusal), None) if refusal.number == panic => tally.count(&format!("{topic}: {panic}, a panic"), 1),
+        (ours, rust) => tally.differs(topic, input, &format!("{ours:?}, the Rust {rust:?}")),
+    }
+}
+
+pub fn powers(tally: &mut Tally, mask: u32) {
+    let rust: Vec<u32> = nonogrid::utils::two_powers(mask).collect();
+    let ours = within(32, |out| lent::two_powers(mask, out)).expect("32 words are enough");
+    tally.equal("two_powers", &[mask], &ours, &rust);
+}
+
+pub fn joined(tally: &mut Tally, words: &[u32]) {
+    tally.equal("from_two_powers", words, &[lent::from_two_powers(words)], &[nonogrid::utils::from_two_powers(words)]);
+}
+
+/// A clue on a line, as a colour clue and, if it can be, as a binary one.
+pub fn clue(tally: &mut Tally, length: usize, clue: &[(u32, u32)]) {
+    let words = clue_words(clue);
+    let input = [&[length as u32], words.as_slice()].concat();
+    let starts = || within(66, |out| lent::starts(length, &words, out));
+    answered(tally, "starts, colour", &input, starts(), 6, rust::starts::<ColoredBlock>(length, clue));
+    if clue.iter().all(|&(_, color)| color == 1) {
+        answered(tally, "starts, binary", &input, starts(), 6, rust::starts::<BinaryBlock>(length, clue));
+    }
+    let ranges = within(62, |out| lent::color_ranges(length, &words, out));
+    answered(tally, "color_ranges, colour", &input, ranges, 6, rust::color_ranges(length, clue));
+}
+
+pub fn line(tally: &mut Tally, line: &[u8]) {
+    let input: Vec<u32> = line.iter().map(|&color| color.into()).collect();
+    let ours = within(128, |out| lent::read_line(line, out)).expect("a line of colours");
+    tally.equal("read_line, colour", &input, &ours, &clue_words(&rust::read_line::<ColoredBlock>(line)));
+    if line.iter().all(|&color| color <= 1) {
+        tally.equal("read_line, binary", &input, &ours, &clue_words(&rust::read_line::<BinaryBlock>(line)));
+    }
+}
+
+/// The clues of a grid, transposing it, and the puzzle that is read from it. The masks are document 01's.
+pub fn grid(tally: &mut Tally, width: usize, grid: &[u8]) -> Puzzle {
+    let input: Vec<u32> = [width as u32].into_iter().chain(grid.iter().map(|&color| color.into())).collect();
+    let height = grid.len() / width;
+    let (columns, rows) = rust::read_grid::<ColoredBlock>(width, grid);
+    let mut puzzle = Puzzle { columns, rows, masks: vec![] };
+    let mask = puzzle.colors().iter().fold(1, |mask, &color| mask | 1 << color);
+    puzzle.masks = vec![mask; grid.len()];
+    let ours = haafgrim::read_grid(width, height, grid).expect("a grid of colours");
+    tally.equal("read_grid, colour", &input, &ours, &puzzle.words());
+    if grid.iter().all(|&color| color <= 1) {
+        let (columns, rows) = rust::read_grid::<BinaryBlock>(width, grid);
+        tally.equal("read_grid, binary", &input, &ours, &Puzzle { columns, rows, ..puzzle.clone() }.words());
+    }
+    tally.equal("transpose", &input, &haafgrim::transpose(width, height, grid).expect("a grid"), &rust::transpose(width, grid));
+    puzzle
+}
+
+/// A puzzle to compare, with probe lists, and models that satisfy it or nearly do.
+pub struct Case {
+    pub puzzle: Puzzle,
+    pub probes: Vec<Probes>,
+    pub models: Vec<Vec<u8>>,
+}
+
+pub type Probes = Vec<(Claim, Vec<Claim>)>;
+
+impl Case {
+    pub fn of(puzzle: Puzzle) -> Self {
+        Self { puzzle, probes: vec![], models: vec![] }
+    }
+
+    pub fn compare(&self, tally: &mut Tally) {
+        if self.puzzle.is_binary() {
+            self.compare_as::<BinaryBlock>(tally);
+        }
+        if self.puzzle.is_colored() {
+            self.compare_as::<ColoredBlock>(tally);
+        }
+    }
+
+    fn compare_as<B: Kind>(&self, tally: &mut Tally)
+    where
+        B::Color: Debug,
+    {
+        let words = self.puzzle.words();
+        let rust = unless_panic(|| Encoder::<B>::new(&self.puzzle)).and_then(|encoder| unless_panic(|| encoder.clauses()).map(|clauses| (encoder, clauses)));
+        match (haafgrim::clauses(&words), rust) {
+            (Ok(ours), Some((encoder, clauses))) => {
+                let formula = Formula::compared(tally, &words, &ours, encoder, clauses);
+                self.probes.iter().for_each(|probes| formula.probes(tally, probes));
+                self.models.iter().for_each(|model| formula.model(tally, model));
+            }
+            (Err(refusal), rust) => self.refused::<B>(tally, &words, refusal, rust.is_none()),
+            (ours, None) => tally.differs("clauses", &words, &format!("{ours:?}, the Rust panics")),
+        }
+    }
+
+    /// 6 and 10 stand for panics; 9 is stricter than the Rust, which panics only where there would be a 10 too.
+    fn refused<B: Kind>(&self, tally: &mut Tally, words: &[u32], refusal: Refusal, panics: bool)
+    where
+        B::Color: Debug,
+    {
+        let topic = format!("clauses, {}: {}", B::NAME, refusal.number);
+        let fine = match refusal.number {
+            6 => panics && self.too_short::<B>() == Some(refusal.place),
+            9 => panics == self.puzzle.solved_outside(),
+            10 => panics && self.stops::<B>(refusal.place),
+            _ => false,
+        };
+        tally.count(&topic, 1);
+        if !fine {
+            tally.differs(&topic, words, &format!("{refusal}, the Rust {}", if panics { "panics" } else { "accepts" }));
+        }
+    }
+
+    /// The first line on which `positions_number` panics.
+    fn too_short<B: Kind>(&self) -> Option<usize> {
+        let Puzzle { columns, rows, .. } = &self.puzzle;
+        let lines = columns.iter().map(|clue| (clue, rows.len())).chain(rows.iter().map(|clue| (clue, columns.len())));
+        lines.map(|(clue, length)| rust::starts::<B>(length, clue)).position(|starts| starts.is_none())
+    }
+
+    /// Whether the Rust panics at the mask of this cell and of none before.
+    fn stops<B: Kind>(&self, cell: usize) -> bool
+    where
+        B::Color: Debug,
+    {
+        let panics = |open: usize| {
+            let mut puzzle = self.puzzle.clone();
+            puzzle.masks[open..].fill(u32::MAX);
+            unless_panic(|| Encoder::<B>::new(&puzzle).clauses()).is_none()
+        };
+        !panics(cell) && panics(cell + 1)
+    }
+}
+
+/// The ten sections of the library's clause words.
+fn sections(words: &[i32]) -> Vec<Clauses> {
+    let mut words = words.iter().copied();
+    let mut section = || {
+        let clauses = words.next().expect("a count of clauses");
+        (0..clauses).map(|_| words.next().map(|literals| words.by_ref().take(literals as usize).collect()).expect("a clause")).collect()
+    };
+    (0..10).map(|_| section()).collect()
+}
+
+fn literals(clauses: &[Vec<i32>]) -> usize {
+    clauses.iter().map(Vec::len).sum()
+}
+
+/// The Rust's clauses of a puzzle that both accept, in document 01's order of colours.
+struct Formula<'a, B: Kind>
+where
+    B::Color: Debug,
+{
+    words: &'a [u32],
+    encoder: Encoder<'a, B>,
+    told: Clauses,
+    clauses: Clauses,
+}
+
+impl<'a, B: Kind> Formula<'a, B>
+where
+    B::Color: Debug,
+{
+    /// Holds the families against each other one by one; the Rust's list is cut where the library's counts say, and must end there.
+    fn compared(tally: &mut Tally, words: &'a [u32], ours: &[i32], encoder: Encoder<'a, B>, told: Clauses) -> Self {
+        let sections = sections(ours);
+        let mut rest = told.iter().cloned();
+        let mut clauses = vec![];
+        for (family, section) in (1..).zip(&sections) {
+            let rust = encoder.ascending(family, rest.by_ref().take(section.len()).collect());
+            tally.equal(&format!("family {family:2}, {}", B::NAME), words, section, &rust);
+            clauses.extend(rust);
+        }
+        tally.equal("end of the clauses", words, &[0], &[rest.count()]);
+        let formula = Self { words, encoder, told, clauses };
+        formula.counts(tally, &sections);
+        formula
+    }
+
+    /// What the library counts, and the length that it needs.
+    fn counts(&self, tally: &mut Tally, sections: &[Clauses]) {
+        let literals = literals(&self.clauses);
+        let needed = 10 + self.clauses.len() + literals;
+        let families = sections.iter().map(|section| section.len() as u64);
+        let rust: Vec<u64> = [self.encoder.variables() as u64].into_iter().chain(families).chain([literals as u64, needed as u64]).collect();
+        let ours = within(13, |out| lent::counts(self.words, out)).expect("an accepted puzzle");
+        tally.equal("counts", self.words, &ours, &rust);
+        let short = lent::clauses(self.words, &mut vec![0; needed - 1]);
+        tally.equal("clauses: 12", self.words, &[short], &[Err(Refusal { number: 12, place: needed })]);
+    }
+
+    /// 17 and 19 stand for panics.
+    fn probes(&self, tally: &mut Tally, probes: &Probes) {
+        let colors = probes.iter().flat_map(|(probe, impacts)| impacts.iter().chain([probe])).map(|&(_, _, color)| color);
+        if B::NAME == BinaryBlock::NAME && colors.max().unwrap_or(0) > 1 {
+            return;
+        }
+        let probe_words = probe_words(probes);
+        let input = [self.words, probe_words.as_slice()].concat();
+        let all = || probes.iter().flat_map(|(probe, impacts)| self.encoder.implications(*probe, impacts)).collect::<Clauses>();
+        let topic = format!("probes, {}", B::NAME);
+        match (haafgrim::probes(self.words, &probe_words), unless_panic(all)) {
+            (Ok(ours), Some(rust)) => {
+                tally.equal(&topic, &input, &ours, &section_words(&rust));
+                let (told, _) = self.encoder.run(probes, &[]);
+                tally.equal("run with probes: clauses told", &input, &[told.len()], &[self.told.len() + rust.len()]);
+            }
+            (Err(Refusal { number: number @ (17 | 19), .. }), None) => tally.count(&format!("{topic}: {number}, a panic"), 1),
+            (ours, rust) => tally.differs(&topic, &input, &format!("{ours:?}, the Rust {rust:?}")),
+        }
+    }
+
+    /// A model is accepted exactly when no clause of the Rust's is false, and then its picture and its blocking clause are those of `run`.
+    fn model(&self, tally: &mut Tally, model: &[u8]) {
+        let holds = |&literal: &i32| (model[literal.unsigned_abs() as usize - 1] == 1) == (literal > 0);
+        let input: Vec<u32> = self.words.iter().copied().chain(model.iter().map(|&byte| byte.into())).collect();
+        let picture = haafgrim::check_model(self.words, model);
+        let blocking = haafgrim::blocking(self.words, model);
+        if let Some(place) = self.clauses.iter().position(|clause| !clause.iter().any(holds)) {
+            let refusal = Refusal { number: 15, place };
+            tally.equal(&format!("models, {}: 15", B::NAME), &input, &[picture.err(), blocking.err()], &[Some(refusal), Some(refusal)]);
+            return;
+        }
+        let (told, pictures) = self.encoder.run(&[], &[model.to_vec()]);
+        let (formula, blocked) = told.split_at(self.told.len());
+        tally.equal("run: clauses told", &input, formula, &self.told);
+        tally.equal(&format!("pictures, {}", B::NAME), &input, &picture.unwrap_or_default(), &pictures.concat());
+        tally.equal(&format!("blocking, {}", B::NAME), &input, &blocking.unwrap_or_default(), &section_words(blocked)[1..]);
+    }
+}
+
+/// Clauses as one section.
+pub fn section_words(clauses: &[Vec<i32>]) -> Vec<i32> {
+    let counted = clauses.iter().flat_map(|clause| [vec![clause.len() as i32], clause.clone()].concat());
+    std::iter::once(clauses.len() as i32).chain(counted).collect()
+}
+
+fn probe_words(probes: &Probes) -> Vec<u32> {
+    let claim = |&(x, y, color): &Claim| [x, y, color];
+    let one = |(probe, impacts): &(Claim, Vec<Claim>)| [claim(probe).to_vec(), vec![impacts.len() as u32], impacts.iter().flat_map(claim).collect()].concat();
+    std::iter::once(probes.len() as u32).chain(probes.iter().flat_map(one)).collect()
+}
+
+/// Words that may be damaged: what has not the form of a puzzle is refused by its form, and the rest is compared.
+pub fn words(tally: &mut Tally, words: &[u32]) {
+    match (Puzzle::parse(words), haafgrim::clauses(words)) {
+        (Some(puzzle), _) => Case::of(puzzle).compare(tally),
+        (None, Err(Refusal { number: 1..=5 | 7 | 8 | 11, .. })) => tally.count("damaged words refused, no Rust to compare", 1),
+        (None, ours) => tally.differs("damaged words", words, &format!("{:?}", ours.map(|out| out.len()))),
+    }
+}
