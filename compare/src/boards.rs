@@ -3,8 +3,7 @@
 use crate::{
     puzzle::{Clue, Puzzle},
     random::Random,
-    rust::{self, Claim},
-    topics::Probes,
+    rust::{self, Claim, Probes},
 };
 use nonogrid::block::multicolor::ColoredBlock;
 
@@ -68,7 +67,11 @@ fn palette(random: &mut Random) -> Vec<u32> {
         let at = random.below(colors.len());
         colors.remove(at);
     }
-    if count == 1 && !random.one_in(3) { vec![1] } else { colors }
+    if count == 1 && !random.one_in(3) {
+        vec![1]
+    } else {
+        colors
+    }
 }
 
 /// A width and a picture, in a few colours or all; many cells are as the one before.

@@ -1,6 +1,8 @@
-//! The Rust of document 000 beside the library: `compare SEED ROUNDS` compares, and ends with status 1 where anything differs.
+//! The Rust of document 000 beside the library: `compare SEED ROUNDS` compares, and ends with status 1 where anything differs;
+//! `compare list` prints the list that the program `vectors` replays.
 
 mod boards;
+mod list;
 mod puzzle;
 mod random;
 mod rust;
@@ -45,7 +47,17 @@ fn exhaustive(tally: &mut Tally) {
 fn limits(tally: &mut Tally) {
     let alternating: puzzle::Clue = (0..64).map(|i| (1, 1 + i % 2)).collect();
     let huge = vec![(u32::MAX, 1), (2, 1)];
-    for clue in [vec![], vec![(1, 31)], vec![(63, 1)], vec![(64, 1)], vec![(65, 1)], vec![(1, 2), (62, 2)], vec![(1, 2), (63, 2)], alternating, huge] {
+    for clue in [
+        vec![],
+        vec![(1, 31)],
+        vec![(63, 1)],
+        vec![(64, 1)],
+        vec![(65, 1)],
+        vec![(1, 2), (62, 2)],
+        vec![(1, 2), (63, 2)],
+        alternating,
+        huge,
+    ] {
         topics::clue(tally, 64, &clue);
         for (width, height) in [(64, 1), (1, 64)] {
             let clues = |count, length| vec![if length == 64 { clue.clone() } else { vec![(1, 1)] }; count];
@@ -117,8 +129,12 @@ fn number(at: usize, otherwise: u64) -> u64 {
 }
 
 fn main() -> ExitCode {
-    let (seed, rounds) = (number(1, 1), number(2, 3000));
     rust::hide_panics();
+    if env::args().nth(1).as_deref() == Some("list") {
+        list::print(1);
+        return ExitCode::SUCCESS;
+    }
+    let (seed, rounds) = (number(1, 1), number(2, 3000));
     let mut tally = Tally::default();
     exhaustive(&mut tally);
     every_probe(&mut tally);
@@ -128,5 +144,9 @@ fn main() -> ExitCode {
         round(&mut tally, &mut random, if i % 20 == 0 { 64 } else { 12 });
     }
     println!("seed {seed}, {rounds} rounds");
-    if tally.summary() { ExitCode::SUCCESS } else { ExitCode::FAILURE }
+    if tally.summary() {
+        ExitCode::SUCCESS
+    } else {
+        ExitCode::FAILURE
+    }
 }

@@ -61,13 +61,23 @@ impl Puzzle {
     /// The colours of the rows, ascending; colour 1 where there are none.
     pub fn colors(&self) -> Vec<u32> {
         let found: BTreeSet<u32> = self.rows.iter().flatten().map(|&(_, color)| color).collect();
-        if found.is_empty() { vec![1] } else { found.into_iter().collect() }
+        if found.is_empty() {
+            vec![1]
+        } else {
+            found.into_iter().collect()
+        }
     }
 
     /// Whether a cell is solved with a colour that no row has.
     pub fn solved_outside(&self) -> bool {
         let colors = self.colors();
         self.masks.iter().any(|mask| mask.is_power_of_two() && *mask > 1 && !colors.contains(&mask.trailing_zeros()))
+    }
+
+    /// Whether a column has a colour that no row has; 9 is stricter than the Rust.
+    pub fn column_outside(&self) -> bool {
+        let colors = self.colors();
+        self.columns.iter().flatten().any(|(_, color)| !colors.contains(color))
     }
 
     /// Binary puzzles of the comparison domain.

@@ -37,7 +37,11 @@ pub fn unless_panic<T>(call: impl FnOnce() -> T) -> Option<T> {
 /// Keeps quiet about the panics that are counted.
 pub fn hide_panics() {
     let loud = take_hook();
-    set_hook(Box::new(move |panic| if !EXPECTED.get() { loud(panic) }));
+    set_hook(Box::new(move |panic| {
+        if !EXPECTED.get() {
+            loud(panic)
+        }
+    }));
 }
 
 /// The Rust's two kinds of puzzles: how colours become ids, and masks cells.
@@ -125,13 +129,57 @@ pub fn read_grid<B: Kind>(width: usize, grid: &[u8]) -> (Vec<Vec<(u32, u32)>>, V
     (columns.iter().map(blocks).collect(), rows.iter().map(blocks).collect())
 }
 
+/// The puzzle of a grid: the clues are the Rust's, and the masks document 01's.
+pub fn puzzle(width: usize, grid: &[u8]) -> Puzzle {
+    let (columns, rows) = read_grid::<ColoredBlock>(width, grid);
+    let mut puzzle = Puzzle { columns, rows, masks: vec![] };
+    let mask = puzzle.colors().iter().fold(1, |mask, &color| mask | 1 << color);
+    puzzle.masks = vec![mask; grid.len()];
+    puzzle
+}
+
+/// The first line on which `positions_number` panics, columns first.
+pub fn too_short<B: Kind>(puzzle: &Puzzle) -> Option<usize> {
+    let columns = puzzle.columns.iter().map(|clue| (clue, puzzle.height()));
+    let rows = puzzle.rows.iter().map(|clue| (clue, puzzle.width()));
+    columns.chain(rows).position(|(clue, length)| starts::<B>(length, clue).is_none())
+}
+
+/// The first clause that a model makes false.
+pub fn false_clause(clauses: &[Vec<i32>], model: &[u8]) -> Option<usize> {
+    let holds = |&literal: &i32| (model[literal.unsigned_abs() as usize - 1] == 1) == (literal > 0);
+    clauses.iter().position(|clause| !clause.iter().any(holds))
+}
+
 pub fn transpose(width: usize, grid: &[u8]) -> Vec<u8> {
     let rows: Vec<_> = grid.chunks(width).map(<[u8]>::to_vec).collect();
     nonogrid::utils::transpose(&rows).expect("rows of one length").concat()
 }
 
+/// Whether the Rust panics at the mask of this cell and at none before.
+pub fn stops_at<B: Kind>(puzzle: &Puzzle, cell: usize) -> bool
+where
+    B::Color: Debug,
+{
+    let panics = |open: usize| {
+        let mut puzzle = puzzle.clone();
+        puzzle.masks[open..].fill(u32::MAX);
+        unless_panic(|| Encoder::<B>::new(&puzzle).clauses()).is_none()
+    };
+    !panics(cell) && panics(cell + 1)
+}
+
 /// A claim of a probe list: column, row and colour.
 pub type Claim = (u32, u32, u32);
+
+/// Probes, each with its impacts.
+pub type Probes = Vec<(Claim, Vec<Claim>)>;
+
+/// Of binary puzzles, probes and impacts are compared only if they are blank or of colour 1.
+pub fn in_domain<B: Kind>(probes: &Probes) -> bool {
+    let mut claims = probes.iter().flat_map(|(probe, impacts)| impacts.iter().chain([probe]));
+    B::NAME != BinaryBlock::NAME || claims.all(|&(_, _, color)| color <= 1)
+}
 
 /// The clause generator of a puzzle, with the number that document 01 gives each of its variables.
 pub struct Encoder<'a, B: Kind>
@@ -181,7 +229,11 @@ where
 
     fn literal(&self, literal: Lit) -> i32 {
         let variable = self.renamed[literal.var().index()];
-        if literal.is_positive() { variable } else { -variable }
+        if literal.is_positive() {
+            variable
+        } else {
+            -variable
+        }
     }
 
     fn clause(&self, clause: &[Lit]) -> Vec<i32> {
@@ -193,29 +245,36 @@ where
         self.generator.door_clauses().map(|clause| self.clause(&clause)).collect()
     }
 
-    /// The clauses of a section from 7 on in document 01's order of colours: a binary puzzle's stay as they are, and of others those
-    /// of one cell and colour keep their order.
-    pub fn ascending(&self, section: usize, mut clauses: Clauses) -> Clauses {
-        if section < 7 || B::NAME == BinaryBlock::NAME {
+    /// The ten families of these clauses, in document 01's order of colours.
+    pub fn families(&self, clauses: &[Vec<i32>]) -> Vec<Clauses> {
+        let mut rest = clauses.iter().cloned();
+        let counts = self.generator.door_counts();
+        let families = counts.iter().zip(1..).map(|(&count, family)| self.ascending(family, rest.by_ref().take(count).collect())).collect();
+        assert_eq!(rest.count(), 0, "clauses of no family");
+        families
+    }
+
+    /// A binary puzzle's clauses stay as they are; of others those of one cell and colour keep their order.
+    fn ascending(&self, family: usize, mut clauses: Clauses) -> Clauses {
+        if family < 7 || B::NAME == BinaryBlock::NAME {
             return clauses;
         }
-        if section == 9 {
+        if family == 9 {
             clauses.iter_mut().for_each(|clause| clause.sort_by_key(|literal| literal.abs()));
         }
         let colors = self.puzzle.colors().len();
-        clauses.sort_by_cached_key(|clause| self.place(section, colors, clause));
+        clauses.sort_by_cached_key(|clause| self.place(family, colors, clause));
         clauses
     }
 
-    /// Where a clause of the sections 7 to 10 stands: its cell, column by column up to 9, then its first and its last cell variable.
-    fn place(&self, section: usize, colors: usize, clause: &[i32]) -> (usize, usize, i32, i32) {
+    /// Where a clause of the families 7 to 10 stands: its cell, column by column up to 9, then its first and its last cell variable.
+    fn place(&self, family: usize, colors: usize, clause: &[i32]) -> (usize, usize, i32, i32) {
         let cell_variable = |&variable: &i32| variable as usize > self.block_vars;
         let mut variables = clause.iter().map(|literal| literal.abs()).filter(cell_variable);
-        // A clause of another section; the comparison will show it.
-        let Some(first) = variables.next() else { return (0, 0, 0, 0) };
+        let first = variables.next().expect("a variable of a cell");
         let cell = (first as usize - 1 - self.block_vars) / colors;
         let (x, y) = (cell % self.puzzle.width(), cell / self.puzzle.width());
-        let (outer, inner) = if section == 10 { (y, x) } else { (x, y) };
+        let (outer, inner) = if family == 10 { (y, x) } else { (x, y) };
         (outer, inner, first, variables.last().unwrap_or(first))
     }
 
@@ -246,7 +305,7 @@ where
 
     /// Runs the Rust's search on models that are given: all clauses that its solver was told, with the blocking clauses last, and the
     /// pictures that it shows.
-    pub fn run(&self, probes: &[(Claim, Vec<Claim>)], models: &[Vec<u8>]) -> (Clauses, Vec<Vec<u8>>) {
+    pub fn run(&self, probes: &Probes, models: &[Vec<u8>]) -> (Clauses, Vec<Vec<u8>>) {
         let value = |model: &Vec<u8>| self.renamed.iter().map(|&variable| model[variable as usize - 1] == 1).collect();
         solver::begin(models.iter().map(value).collect());
         let impact = probes.iter().map(|(probe, impacts)| {

@@ -2,7 +2,7 @@
 
 use crate::{
     puzzle::{clue_words, Puzzle},
-    rust::{self, unless_panic, Claim, Clauses, Encoder, Kind},
+    rust::{self, unless_panic, Claim, Clauses, Encoder, Kind, Probes},
     tally::Tally,
 };
 use haafgrim::{lent, Refusal};
@@ -16,7 +16,14 @@ fn within<T: Default + Clone>(room: usize, entry: impl Fn(&mut [T]) -> Result<us
 }
 
 /// An answer whose refusals stand for panics of the Rust.
-fn answered<T: PartialEq + Debug>(tally: &mut Tally, topic: &str, input: &[u32], ours: Result<Vec<T>, Refusal>, panic: u32, rust: Option<Vec<T>>) {
+fn answered<T: PartialEq + Debug>(
+    tally: &mut Tally,
+    topic: &str,
+    input: &[u32],
+    ours: Result<Vec<T>, Refusal>,
+    panic: u32,
+    rust: Option<Vec<T>>,
+) {
     match (ours, rust) {
         (Ok(ours), Some(rust)) => tally.equal(topic, input, &ours, &rust),
         (Err(refusal), None) if refusal.number == panic => tally.count(&format!("{topic}: {panic}, a panic"), 1),
@@ -60,10 +67,7 @@ pub fn line(tally: &mut Tally, line: &[u8]) {
 pub fn grid(tally: &mut Tally, width: usize, grid: &[u8]) -> Puzzle {
     let input: Vec<u32> = [width as u32].into_iter().chain(grid.iter().map(|&color| color.into())).collect();
     let height = grid.len() / width;
-    let (columns, rows) = rust::read_grid::<ColoredBlock>(width, grid);
-    let mut puzzle = Puzzle { columns, rows, masks: vec![] };
-    let mask = puzzle.colors().iter().fold(1, |mask, &color| mask | 1 << color);
-    puzzle.masks = vec![mask; grid.len()];
+    let puzzle = rust::puzzle(width, grid);
     let ours = haafgrim::read_grid(width, height, grid).expect("a grid of colours");
     tally.equal("read_grid, colour", &input, &ours, &puzzle.words());
     if grid.iter().all(|&color| color <= 1) {
@@ -80,8 +84,6 @@ pub struct Case {
     pub probes: Vec<Probes>,
     pub models: Vec<Vec<u8>>,
 }
-
-pub type Probes = Vec<(Claim, Vec<Claim>)>;
 
 impl Case {
     pub fn of(puzzle: Puzzle) -> Self {
@@ -102,7 +104,8 @@ impl Case {
         B::Color: Debug,
     {
         let words = self.puzzle.words();
-        let rust = unless_panic(|| Encoder::<B>::new(&self.puzzle)).and_then(|encoder| unless_panic(|| encoder.clauses()).map(|clauses| (encoder, clauses)));
+        let rust = unless_panic(|| Encoder::<B>::new(&self.puzzle))
+            .and_then(|encoder| unless_panic(|| encoder.clauses()).map(|clauses| (encoder, clauses)));
         match (haafgrim::clauses(&words), rust) {
             (Ok(ours), Some((encoder, clauses))) => {
                 let formula = Formula::compared(tally, &words, &ours, encoder, clauses);
@@ -121,35 +124,15 @@ impl Case {
     {
         let topic = format!("clauses, {}: {}", B::NAME, refusal.number);
         let fine = match refusal.number {
-            6 => panics && self.too_short::<B>() == Some(refusal.place),
+            6 => panics && rust::too_short::<B>(&self.puzzle) == Some(refusal.place),
             9 => panics == self.puzzle.solved_outside(),
-            10 => panics && self.stops::<B>(refusal.place),
+            10 => panics && rust::stops_at::<B>(&self.puzzle, refusal.place),
             _ => false,
         };
         tally.count(&topic, 1);
         if !fine {
             tally.differs(&topic, words, &format!("{refusal}, the Rust {}", if panics { "panics" } else { "accepts" }));
         }
-    }
-
-    /// The first line on which `positions_number` panics.
-    fn too_short<B: Kind>(&self) -> Option<usize> {
-        let Puzzle { columns, rows, .. } = &self.puzzle;
-        let lines = columns.iter().map(|clue| (clue, rows.len())).chain(rows.iter().map(|clue| (clue, columns.len())));
-        lines.map(|(clue, length)| rust::starts::<B>(length, clue)).position(|starts| starts.is_none())
-    }
-
-    /// Whether the Rust panics at the mask of this cell and of none before.
-    fn stops<B: Kind>(&self, cell: usize) -> bool
-    where
-        B::Color: Debug,
-    {
-        let panics = |open: usize| {
-            let mut puzzle = self.puzzle.clone();
-            puzzle.masks[open..].fill(u32::MAX);
-            unless_panic(|| Encoder::<B>::new(&puzzle).clauses()).is_none()
-        };
-        !panics(cell) && panics(cell + 1)
     }
 }
 
@@ -163,8 +146,12 @@ fn sections(words: &[i32]) -> Vec<Clauses> {
     (0..10).map(|_| section()).collect()
 }
 
-fn literals(clauses: &[Vec<i32>]) -> usize {
-    clauses.iter().map(Vec::len).sum()
+/// What the library counts of these families: variables, clauses, literals and words.
+pub fn count_words(variables: usize, families: &[Clauses]) -> Vec<u64> {
+    let literals: usize = families.iter().flatten().map(Vec::len).sum();
+    let clauses: usize = families.iter().map(Vec::len).sum();
+    let sizes = families.iter().map(Vec::len);
+    [variables].into_iter().chain(sizes).chain([literals, 10 + clauses + literals]).map(|n| n as u64).collect()
 }
 
 /// The Rust's clauses of a puzzle that both accept, in document 01's order of colours.
@@ -182,28 +169,21 @@ impl<'a, B: Kind> Formula<'a, B>
 where
     B::Color: Debug,
 {
-    /// Holds the families against each other one by one; the Rust's list is cut where the library's counts say, and must end there.
+    /// Holds the families against each other one by one.
     fn compared(tally: &mut Tally, words: &'a [u32], ours: &[i32], encoder: Encoder<'a, B>, told: Clauses) -> Self {
-        let sections = sections(ours);
-        let mut rest = told.iter().cloned();
-        let mut clauses = vec![];
-        for (family, section) in (1..).zip(&sections) {
-            let rust = encoder.ascending(family, rest.by_ref().take(section.len()).collect());
-            tally.equal(&format!("family {family:2}, {}", B::NAME), words, section, &rust);
-            clauses.extend(rust);
+        let families = encoder.families(&told);
+        for (family, (ours, rust)) in (1..).zip(sections(ours).iter().zip(&families)) {
+            tally.equal(&format!("family {family:2}, {}", B::NAME), words, ours, rust);
         }
-        tally.equal("end of the clauses", words, &[0], &[rest.count()]);
-        let formula = Self { words, encoder, told, clauses };
-        formula.counts(tally, &sections);
+        let formula = Self { words, encoder, told, clauses: families.concat() };
+        formula.counts(tally, &families);
         formula
     }
 
     /// What the library counts, and the length that it needs.
-    fn counts(&self, tally: &mut Tally, sections: &[Clauses]) {
-        let literals = literals(&self.clauses);
-        let needed = 10 + self.clauses.len() + literals;
-        let families = sections.iter().map(|section| section.len() as u64);
-        let rust: Vec<u64> = [self.encoder.variables() as u64].into_iter().chain(families).chain([literals as u64, needed as u64]).collect();
+    fn counts(&self, tally: &mut Tally, families: &[Clauses]) {
+        let rust = count_words(self.encoder.variables(), families);
+        let needed = rust[12] as usize;
         let ours = within(13, |out| lent::counts(self.words, out)).expect("an accepted puzzle");
         tally.equal("counts", self.words, &ours, &rust);
         let short = lent::clauses(self.words, &mut vec![0; needed - 1]);
@@ -212,8 +192,7 @@ where
 
     /// 17 and 19 stand for panics.
     fn probes(&self, tally: &mut Tally, probes: &Probes) {
-        let colors = probes.iter().flat_map(|(probe, impacts)| impacts.iter().chain([probe])).map(|&(_, _, color)| color);
-        if B::NAME == BinaryBlock::NAME && colors.max().unwrap_or(0) > 1 {
+        if !rust::in_domain::<B>(probes) {
             return;
         }
         let probe_words = probe_words(probes);
@@ -233,16 +212,15 @@ where
 
     /// A model is accepted exactly when no clause of the Rust's is false, and then its picture and its blocking clause are those of `run`.
     fn model(&self, tally: &mut Tally, model: &[u8]) {
-        let holds = |&literal: &i32| (model[literal.unsigned_abs() as usize - 1] == 1) == (literal > 0);
         let input: Vec<u32> = self.words.iter().copied().chain(model.iter().map(|&byte| byte.into())).collect();
         let picture = haafgrim::check_model(self.words, model);
         let blocking = haafgrim::blocking(self.words, model);
-        if let Some(place) = self.clauses.iter().position(|clause| !clause.iter().any(holds)) {
+        if let Some(place) = rust::false_clause(&self.clauses, model) {
             let refusal = Refusal { number: 15, place };
             tally.equal(&format!("models, {}: 15", B::NAME), &input, &[picture.err(), blocking.err()], &[Some(refusal), Some(refusal)]);
             return;
         }
-        let (told, pictures) = self.encoder.run(&[], &[model.to_vec()]);
+        let (told, pictures) = self.encoder.run(&vec![], &[model.to_vec()]);
         let (formula, blocked) = told.split_at(self.told.len());
         tally.equal("run: clauses told", &input, formula, &self.told);
         tally.equal(&format!("pictures, {}", B::NAME), &input, &picture.unwrap_or_default(), &pictures.concat());
@@ -256,9 +234,11 @@ pub fn section_words(clauses: &[Vec<i32>]) -> Vec<i32> {
     std::iter::once(clauses.len() as i32).chain(counted).collect()
 }
 
-fn probe_words(probes: &Probes) -> Vec<u32> {
+pub fn probe_words(probes: &Probes) -> Vec<u32> {
     let claim = |&(x, y, color): &Claim| [x, y, color];
-    let one = |(probe, impacts): &(Claim, Vec<Claim>)| [claim(probe).to_vec(), vec![impacts.len() as u32], impacts.iter().flat_map(claim).collect()].concat();
+    let one = |(probe, impacts): &(Claim, Vec<Claim>)| {
+        [claim(probe).to_vec(), vec![impacts.len() as u32], impacts.iter().flat_map(claim).collect()].concat()
+    };
     std::iter::once(probes.len() as u32).chain(probes.iter().flat_map(one)).collect()
 }
 
