@@ -9,7 +9,6 @@ use crate::{
     topics::{count_words, probe_words, section_words},
 };
 use nonogrid::block::{binary::BinaryBlock, multicolor::ColoredBlock};
-use std::fmt::Debug;
 
 /// What is written, or a refusal's number and place.
 type Answer = Result<Vec<i64>, (u32, usize)>;
@@ -70,10 +69,7 @@ fn grids(random: &mut Random) {
 }
 
 /// A picture's model, checked as it is and with one byte changed.
-fn models<B: Kind>(random: &mut Random, puzzle: &Puzzle, width: usize, grid: &[u8])
-where
-    B::Color: Debug,
-{
+fn models<B: Kind>(random: &mut Random, puzzle: &Puzzle, width: usize, grid: &[u8]) {
     let encoder = Encoder::<B>::new(puzzle);
     let clauses = encoder.families(&encoder.clauses()).concat();
     let model = boards::model(puzzle, width, grid);
@@ -90,10 +86,7 @@ where
 }
 
 /// What the Rust answers of a puzzle's clauses. Its panics have no place: that of 6 is the line, that of 10 the cell at which it panics.
-fn families<B: Kind>(puzzle: &Puzzle) -> Result<Vec<Clauses>, (u32, usize)>
-where
-    B::Color: Debug,
-{
+fn families<B: Kind>(puzzle: &Puzzle) -> Result<Vec<Clauses>, (u32, usize)> {
     if let Some(line) = rust::too_short::<B>(puzzle) {
         return Err((6, line));
     }
@@ -105,10 +98,7 @@ where
 }
 
 /// The clauses of any puzzle, their counts, and those of probes.
-fn clauses<B: Kind>(random: &mut Random, puzzle: &Puzzle)
-where
-    B::Color: Debug,
-{
+fn clauses<B: Kind>(random: &mut Random, puzzle: &Puzzle) {
     let words = wide(&puzzle.words());
     let families = match families::<B>(puzzle) {
         Ok(families) => families,

@@ -2,6 +2,7 @@
 //! `compare list` prints the list that the program `vectors` replays.
 
 mod boards;
+mod intended;
 mod list;
 mod puzzle;
 mod random;
@@ -136,6 +137,7 @@ fn main() -> ExitCode {
     }
     let (seed, rounds) = (number(1, 1), number(2, 3000));
     let mut tally = Tally::default();
+    intended::compare(&mut tally);
     exhaustive(&mut tally);
     every_probe(&mut tally);
     limits(&mut tally);

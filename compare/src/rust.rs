@@ -14,7 +14,6 @@ use nonogrid::{
 use std::{
     cell::Cell,
     collections::HashMap,
-    fmt::Debug,
     panic::{catch_unwind, set_hook, take_hook, AssertUnwindSafe},
     rc::Rc,
 };
@@ -157,10 +156,7 @@ pub fn transpose(width: usize, grid: &[u8]) -> Vec<u8> {
 }
 
 /// Whether the Rust panics at the mask of this cell and at none before.
-pub fn stops_at<B: Kind>(puzzle: &Puzzle, cell: usize) -> bool
-where
-    B::Color: Debug,
-{
+pub fn stops_at<B: Kind>(puzzle: &Puzzle, cell: usize) -> bool {
     let panics = |open: usize| {
         let mut puzzle = puzzle.clone();
         puzzle.masks[open..].fill(u32::MAX);
@@ -182,20 +178,14 @@ pub fn in_domain<B: Kind>(probes: &Probes) -> bool {
 }
 
 /// The clause generator of a puzzle, with the number that document 01 gives each of its variables.
-pub struct Encoder<'a, B: Kind>
-where
-    B::Color: Debug,
-{
+pub struct Encoder<'a, B: Kind> {
     puzzle: &'a Puzzle,
     generator: ClauseGenerator<B>,
     block_vars: usize,
     renamed: Vec<i32>,
 }
 
-impl<'a, B: Kind> Encoder<'a, B>
-where
-    B::Color: Debug,
-{
+impl<'a, B: Kind> Encoder<'a, B> {
     /// Panics where the Rust does.
     pub fn new(puzzle: &'a Puzzle) -> Self {
         let clues = |lines: &[Vec<(u32, u32)>]| lines.iter().map(|clue| Rc::new(B::clue(clue))).collect::<Vec<_>>();

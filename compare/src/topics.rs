@@ -99,10 +99,7 @@ impl Case {
         }
     }
 
-    fn compare_as<B: Kind>(&self, tally: &mut Tally)
-    where
-        B::Color: Debug,
-    {
+    fn compare_as<B: Kind>(&self, tally: &mut Tally) {
         let words = self.puzzle.words();
         let rust = unless_panic(|| Encoder::<B>::new(&self.puzzle))
             .and_then(|encoder| unless_panic(|| encoder.clauses()).map(|clauses| (encoder, clauses)));
@@ -118,10 +115,7 @@ impl Case {
     }
 
     /// 6 and 10 stand for panics; 9 is stricter than the Rust, which panics only where there would be a 10 too.
-    fn refused<B: Kind>(&self, tally: &mut Tally, words: &[u32], refusal: Refusal, panics: bool)
-    where
-        B::Color: Debug,
-    {
+    fn refused<B: Kind>(&self, tally: &mut Tally, words: &[u32], refusal: Refusal, panics: bool) {
         let topic = format!("clauses, {}: {}", B::NAME, refusal.number);
         let fine = match refusal.number {
             6 => panics && rust::too_short::<B>(&self.puzzle) == Some(refusal.place),
@@ -155,20 +149,14 @@ pub fn count_words(variables: usize, families: &[Clauses]) -> Vec<u64> {
 }
 
 /// The Rust's clauses of a puzzle that both accept, in document 01's order of colours.
-struct Formula<'a, B: Kind>
-where
-    B::Color: Debug,
-{
+struct Formula<'a, B: Kind> {
     words: &'a [u32],
     encoder: Encoder<'a, B>,
     told: Clauses,
     clauses: Clauses,
 }
 
-impl<'a, B: Kind> Formula<'a, B>
-where
-    B::Color: Debug,
-{
+impl<'a, B: Kind> Formula<'a, B> {
     /// Holds the families against each other one by one.
     fn compared(tally: &mut Tally, words: &'a [u32], ours: &[i32], encoder: Encoder<'a, B>, told: Clauses) -> Self {
         let families = encoder.families(&told);
