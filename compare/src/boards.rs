@@ -54,11 +54,12 @@ pub fn each_puzzle(width: usize, height: usize, column: &[Clue], row: &[Clue], m
     });
 }
 
-/// Most are small; some are narrow, and some are up to 64 long.
-pub fn size(random: &mut Random, most: usize) -> usize {
-    let long = 8 + random.below(57);
-    random.pick(&[1, 2, 2, 3, 3, 4, 5, 6, 7, 10, long, 64]).min(most)
-}
+/// Widths and heights to pick from.
+pub type Sizes = &'static [usize];
+pub const TINY: Sizes = &[1, 2, 2, 3, 3, 4];
+pub const SMALL: Sizes = &[1, 2, 2, 3, 3, 4, 5, 6, 7, 10, 12];
+pub const ANY: Sizes = &[1, 2, 3, 5, 8, 13, 21, 34, 55, 63, 64];
+pub const FULL: Sizes = &[64];
 
 fn palette(random: &mut Random) -> Vec<u32> {
     let count = random.pick(&[1, 1, 2, 3, 5, 31]);
@@ -75,8 +76,8 @@ fn palette(random: &mut Random) -> Vec<u32> {
 }
 
 /// A width and a picture, in a few colours or all; many cells are as the one before.
-pub fn picture(random: &mut Random, most: usize) -> (usize, Vec<u8>) {
-    let (width, height) = (size(random, most), size(random, most));
+pub fn picture(random: &mut Random, sizes: Sizes) -> (usize, Vec<u8>) {
+    let (width, height) = (random.pick(sizes), random.pick(sizes));
     let colors = palette(random);
     let blank = random.pick(&[2, 3, 6, 50]);
     let mut cells: Vec<u8> = vec![];
@@ -111,8 +112,8 @@ fn mask(random: &mut Random, colors: &[u32]) -> u32 {
 }
 
 /// Clues of their own for each line, or those of a picture; then masks of every kind.
-pub fn puzzle(random: &mut Random, most: usize) -> Puzzle {
-    let (width, grid) = picture(random, most);
+pub fn puzzle(random: &mut Random, sizes: Sizes) -> Puzzle {
+    let (width, grid) = picture(random, sizes);
     let (mut columns, mut rows) = rust::read_grid::<ColoredBlock>(width, &grid);
     if random.one_in(2) {
         let colors = palette(random);

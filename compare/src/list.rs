@@ -47,7 +47,7 @@ fn powers(random: &mut Random) {
 }
 
 fn clues(random: &mut Random) {
-    let length = boards::size(random, 64);
+    let length = random.pick(boards::ANY);
     let colors = [1 + random.below(31) as u32, 1 + random.below(31) as u32];
     let mut clue = boards::clue(random, length, &colors);
     if random.one_in(4) {
@@ -61,7 +61,7 @@ fn clues(random: &mut Random) {
 
 /// Of what `read_grid` writes, the masks are document 01's; the clues are the Rust's.
 fn grids(random: &mut Random) {
-    let (width, grid) = boards::picture(random, 6);
+    let (width, grid) = boards::picture(random, boards::TINY);
     case(random, "read_line", &wide(&grid[..width]), Ok(wide(&clue_words(&rust::read_line::<ColoredBlock>(&grid[..width])))));
     let args = [vec![width as i64, (grid.len() / width) as i64], wide(&grid)].concat();
     case(random, "read_grid", &args, Ok(wide(&rust::puzzle(width, &grid).words())));
@@ -119,7 +119,7 @@ fn clauses<B: Kind>(random: &mut Random, puzzle: &Puzzle) {
 
 /// A small puzzle; now and then a block more, or a mask of one bit.
 fn puzzle(random: &mut Random) -> Puzzle {
-    let mut puzzle = boards::puzzle(random, 4);
+    let mut puzzle = boards::puzzle(random, boards::TINY);
     let more = (2, puzzle.colors()[0]);
     match random.below(8) {
         0 => puzzle.columns[0].push(more),
@@ -145,7 +145,7 @@ pub fn print(seed: u64) {
         grids(&mut random);
     }
     for _ in 0..12 {
-        let (width, grid) = boards::picture(&mut random, 4);
+        let (width, grid) = boards::picture(&mut random, boards::TINY);
         let puzzle = rust::puzzle(width, &grid);
         if puzzle.is_binary() {
             models::<BinaryBlock>(&mut random, &puzzle, width, &grid);

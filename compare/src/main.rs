@@ -10,6 +10,7 @@ mod rust;
 mod tally;
 mod topics;
 
+use boards::Sizes;
 use puzzle::Puzzle;
 use random::Random;
 use rust::Claim;
@@ -98,12 +99,12 @@ fn every_probe(tally: &mut Tally) {
 }
 
 /// One random input of each kind, and damaged copies.
-fn round(tally: &mut Tally, random: &mut Random, most: usize) {
+fn round(tally: &mut Tally, random: &mut Random, sizes: Sizes) {
     topics::powers(tally, random.word() as u32);
     let words: Vec<u32> = (0..random.below(40)).map(|_| random.word() as u32 & random.word() as u32).collect();
     topics::joined(tally, &words);
 
-    let (width, grid) = boards::picture(random, most);
+    let (width, grid) = boards::picture(random, sizes);
     topics::line(tally, &grid[..width]);
     let read = topics::grid(tally, width, &grid);
     let model = boards::model(&read, width, &grid);
@@ -113,7 +114,7 @@ fn round(tally: &mut Tally, random: &mut Random, most: usize) {
     let probes = vec![boards::probes(random, &read)];
     Case { puzzle: read, probes, models: vec![model, flipped] }.compare(tally);
 
-    let puzzle = boards::puzzle(random, most);
+    let puzzle = boards::puzzle(random, sizes);
     for clue in &puzzle.columns {
         topics::clue(tally, puzzle.height(), clue);
     }
@@ -143,7 +144,12 @@ fn main() -> ExitCode {
     limits(&mut tally);
     let mut random = Random::new(seed);
     for i in 0..rounds {
-        round(&mut tally, &mut random, if i % 20 == 0 { 64 } else { 12 });
+        let sizes = match i {
+            _ if i % 200 == 0 => boards::FULL,
+            _ if i % 10 == 0 => boards::ANY,
+            _ => boards::SMALL,
+        };
+        round(&mut tally, &mut random, sizes);
     }
     println!("seed {seed}, {rounds} rounds");
     if tally.summary() {
