@@ -7,36 +7,15 @@ section; and so on, until the solver finds no more. Small boards: the pictures m
 must be those pictures in which the probes' impacts hold. The program `encode`, given the puzzle through a pipe in two pieces, must write the same text of the ten sections. Large boards, made from a known picture: every picture found must read as the same clues, no two may be the same, and where
 the solver finds no more, the known picture must be among them. Ends at the first wrong answer, with status 1.
 """
-import ctypes
 import random
 import subprocess
 import sys
 from itertools import product
 
+import haafgrim
+
 FOLDER, SEED = sys.argv[1], int(sys.argv[2])
-LIBRARY = ctypes.CDLL(f"{FOLDER}/libhaafgrim.so")
 SOLVERS = ("cadical", "minisat", "picosat")
-U8, U32, I32, U64, SIZE = ctypes.c_uint8, ctypes.c_uint32, ctypes.c_int32, ctypes.c_uint64, ctypes.c_size_t
-
-
-def call(entry, sizes, slices, kind, room=0):
-    """A call that asks first how much room it needs; answers the number, the place and what was written."""
-    args = [SIZE(n) for n in sizes]
-    for element, values in slices:
-        args += [(element * len(values))(*values), SIZE(len(values))]
-    place = SIZE()
-    number = getattr(LIBRARY, "haafgrim_" + entry)(*args, (kind * room)(), SIZE(room), ctypes.byref(place))
-    if number == 12:
-        out = (kind * place.value)()
-        number = getattr(LIBRARY, "haafgrim_" + entry)(*args, out, SIZE(len(out)), ctypes.byref(place))
-        return number, place.value, out[:place.value] if number == 0 else []
-    return number, place.value, []
-
-
-def must(entry, *args):
-    number, place, out = call(entry, *args)
-    expect(number == 0, f"{entry} is refused with {number} at {place}")
-    return out
 
 
 def expect(right, what):
@@ -47,7 +26,7 @@ def expect(right, what):
 def solve(solver, text):
     """The model of a formula as a set of true variables, or None."""
     with open(f"{FOLDER}/formula.cnf", "wb") as file:
-        file.write(bytes(text))
+        file.write(text)
     command = [solver, f"{FOLDER}/formula.cnf"] + ([f"{FOLDER}/model"] if solver == "minisat" else [])
     run = subprocess.run(command, capture_output=True, text=True)
     expect(run.returncode in (10, 20), f"{solver} answers {run.returncode}: {run.stdout[-300:]}{run.stderr[-300:]}")
@@ -70,10 +49,10 @@ def program(puzzle):
 
 
 def check_program(puzzle):
-    counts = must("counts", [], [(U32, puzzle)], U64)
-    text = bytes(must("dimacs", [counts[0], 10], [(I32, must("clauses", [], [(U32, puzzle)], I32))], U8))
-    if counts[12] > 16384:
-        text = b"refused 12 at %d\n" % counts[12]
+    counts = haafgrim.counts(puzzle)
+    text = haafgrim.dimacs(counts.variables, 10, haafgrim.clauses(puzzle))
+    if counts.words > 16384:
+        text = b"refused 12 at %d\n" % counts.words
     elif len(text) > 65536:
         text = b"refused 12 at %d\n" % len(text)
     expect(program(puzzle) == text, f"the program writes another text of {puzzle}")
@@ -81,19 +60,18 @@ def check_program(puzzle):
 
 def pictures(solver, puzzle, probes=None, most=None):
     """The pictures that the solver finds, one after another, and whether there are no more."""
-    counts = must("counts", [], [(U32, puzzle)], U64)
-    words = must("clauses", [], [(U32, puzzle)], I32)
-    implications = must("probes", [], [(U32, puzzle), (U32, probes)], I32) if probes is not None else []
+    variables = haafgrim.counts(puzzle).variables
+    words = haafgrim.clauses(puzzle).tolist()
+    implications = haafgrim.probes(puzzle, probes).tolist() if probes is not None else []
     blocked, found = [], []
     while most is None or len(found) < most:
         blocking = [len(blocked)] + [word for clause in blocked for word in clause]
-        text = must("dimacs", [counts[0], 12 if implications else 11], [(I32, words + blocking + implications)], U8)
-        true = solve(solver, text)
+        true = solve(solver, haafgrim.dimacs(variables, 12 if implications else 11, words + blocking + implications))
         if true is None:
             return found, True
-        model = [int(v in true) for v in range(1, counts[0] + 1)]
-        found.append(must("check_model", [], [(U32, puzzle), (U8, model)], U8))
-        blocked.append(must("blocking", [], [(U32, puzzle), (U8, model)], I32))
+        model = [int(v in true) for v in range(1, variables + 1)]
+        found.append(list(haafgrim.check_model(puzzle, model)))
+        blocked.append(haafgrim.blocking(puzzle, model))
     return found, False
 
 
@@ -187,12 +165,12 @@ def blobs(r, width, height, colors):
 def large_boards(r):
     for width, height, colors in [(10, 10, 1), (15, 15, 2), (20, 20, 4), (25, 25, 1), (25, 25, 3), (30, 20, 31)]:
         cells = blobs(r, width, height, colors)
-        puzzle = must("read_grid", [width, height], [(U8, cells)], U32)
+        puzzle = haafgrim.read_grid(width, height, cells)
         check_program(puzzle)
         for solver in SOLVERS:
             found, whole = pictures(solver, puzzle, most=4)
             for picture in found:
-                expect(must("read_grid", [width, height], [(U8, picture)], U32) == puzzle, f"{solver}: a picture reads as other clues")
+                expect(haafgrim.read_grid(width, height, picture) == puzzle, f"{solver}: a picture reads as other clues")
             expect(len({bytes(picture) for picture in found}) == len(found), f"{solver}: a picture that was blocked")
             expect(not whole or cells in found, f"{solver}: the known picture of {width} by {height} is not found")
             print(f"{width} by {height}, {colors} colours, {solver}: {len(found)} picture{'s' * (len(found) != 1)}{', no more' if whole else ' and more'}")
