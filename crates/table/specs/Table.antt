@@ -6,19 +6,14 @@ use Prim.Native.Nat.{ℕ}
 use lib.IntN.{ℤ}
 use lib.ListN.{length}
 use Rattle.lists.specs.Each.{tab}
-use Rattle.refusals.specs.Verdict.{accepted, andThen}
-use Rattle.refusals.specs.Outcome.{Outcome}
+use Rattle.refusals.specs.Verdict.{accepted}
 use Rattle.literals.specs.Literals.{positive, negative}
-use Rattle.sections.specs.Sections.{clauseWords}
 use Rattle.lines.specs.Clue.{gap, conflict}
-use Rattle.lines.specs.Calls.{clueChecks, startsWords, rangesWords, lineChecks, lineWords}
 use Rattle.puzzles.specs.Checks.{puzzle, puzzleChecks}
 use Rattle.numbering.specs.Variables.{variables}
 use Rattle.counts.specs.Families.{clauses, buffer}
-use Rattle.truth.specs.Truth.{value}
-use Rattle.pictures.specs.Pictures.{blocking}
 use Rattle.pictures.specs.Examples.{p8, p10, p11, p11-model, p12, p12-model}
-use Rattle.models.specs.Models.{modelChecks}
+use Rattle.haafgrim.specs.Entries.{ReadLine, Starts, ColorRanges, Clauses, Blocking}
 
 -- the word w, n times
 abbrev pub filled : {A : Type 0} → ℕ → A → List A
@@ -43,17 +38,16 @@ pub data Row : Type 0 where
   -- a puzzle's words, a model, and the words of its blocking clause
   blocked : List ℕ → List ℕ → List ℤ → Row
 
--- what a row says, in the words of the contracts; the buffers lent are full of sevens, and of the length needed but where it is short
+-- what a row says, in the words of the entries' promises; the buffers lent are full of sevens, and of the length needed but where it is short
 abbrev pub Holds : Row → Type 0
-Holds (line cells ws) = Outcome (lineChecks cells) (lineWords cells) (filled (length ws) 7) 0 (length ws) ws
-Holds (start n clue ws) = Outcome (clueChecks n clue) (startsWords n clue) (filled (length ws) 7) 0 (length ws) ws
-Holds (ranges n clue ws) = Outcome (clueChecks n clue) (rangesWords n clue) (filled (length ws) 7) 0 (length ws) ws
+Holds (line cells ws) = ReadLine cells (filled (length ws) 7) 0 (length ws) ws
+Holds (start n clue ws) = Starts n clue (filled (length ws) 7) 0 (length ws) ws
+Holds (ranges n clue ws) = ColorRanges n clue (filled (length ws) 7) 0 (length ws) ws
 Holds (meeting e c s d b) = conflict gap c e d s ≡ b
-Holds (buffered w ws) = Outcome (puzzleChecks w) (buffer (puzzle w)) (filled (length ws) (positive 7)) 0 (length ws) ws
-Holds (short w room need) = Outcome (puzzleChecks w) (buffer (puzzle w)) (filled room (positive 7)) 12 need (filled room (positive 7))
+Holds (buffered w ws) = Clauses w (filled (length ws) (positive 7)) 0 (length ws) ws
+Holds (short w room need) = Clauses w (filled room (positive 7)) 12 need (filled room (positive 7))
 Holds (sized w v c n) = (puzzleChecks w ≡ accepted 2) × (variables (puzzle w) ≡ v) × (length (clauses (puzzle w)) ≡ c) × (length (buffer (puzzle w)) ≡ n)
-Holds (blocked w model ws) =
-    Outcome (andThen (puzzleChecks w) (modelChecks (puzzle w) model)) (clauseWords (blocking (puzzle w) (value model))) (filled (length ws) (positive 7)) 0 (length ws) ws
+Holds (blocked w model ws) = Blocking w model (filled (length ws) (positive 7)) 0 (length ws) ws
 
 -- every row of a list holds
 unfoldable pub AllHold : List Row → Type 0
