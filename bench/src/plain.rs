@@ -140,12 +140,15 @@ impl<'a> Puzzle<'a> {
         self.first_cell + ((y * self.width + x) * self.palette.len()) as i32
     }
 
-    /// Hands over each position of a colour that covers cell t of line l.
+    /// Hands over each position of a colour that covers cell t of line l; from the first that begins behind it on, none does.
     fn covering(&self, l: usize, t: usize, color: u32, mut found: impl FnMut(i32)) {
         let line = &self.lines[l];
         for block in self.blocks(line).iter().filter(|block| block.color == color) {
             for (v, start) in (block.first..).zip(block.start..block.start + line.positions) {
-                if (start..start + block.size).contains(&t) {
+                if t < start {
+                    break;
+                }
+                if t < start + block.size {
                     found(v);
                 }
             }

@@ -11,7 +11,7 @@ use nonogrid::{
     board::Point,
     solver::sat::ClauseGenerator,
 };
-use std::{fmt::Debug, io::Write, rc::Rc};
+use std::{io::Write, rc::Rc};
 use varisat::{CnfFormula, Lit};
 
 /// A board as the Rust takes it: colour k is id 2^k, and a board of one colour is black and white.
@@ -49,10 +49,7 @@ impl<B: Block> Clues<B> {
         Self { matrix, columns: shared(columns), rows: shared(rows), cells: vec![cell; board.grid.len()] }
     }
 
-    fn generator(&self) -> ClauseGenerator<B>
-    where
-        B::Color: Debug,
-    {
+    fn generator(&self) -> ClauseGenerator<B> {
         ClauseGenerator::with_clues(&self.columns, &self.rows, self.cells.clone())
     }
 }
