@@ -3,7 +3,7 @@ use mathlib.Core.Path.{_≡_, refl}
 use mathlib.Core.List.{List, [], _∷_, _++_}
 use Prim.Native.Nat.{ℕ, zero, suc, _+_, _-_, _*_, _/_, _%_, _^_, _≤_, _<_}
 use native.Mathlib.Omega.{arith}
-use native.Mathlib.Nat.{div-add-mod, mod-lt, pow-suc}
+use native.Mathlib.Nat.{div-add-mod, mod-lt, pow-suc, one-le-pow}
 use native.Mathlib.Decide.{decLt}
 use lib.ListN.{length, getD, length-append, List·getD-append}
 use lib.Seq.{getD-at}
@@ -71,6 +71,17 @@ digits-most (suc k) n h = elim (decLt n 10) [
       let m : n / 10 < 10 ^ suc k = omega (arith, tens n .whole, tens n .last, pow-suc 10 (suc k)) in
       rw (digits-more n (omega arith), length-append) (omega (arith, digits-most k (n / 10) m))
 ]
+
+digits-least : (k n : ℕ) → 10 ^ k ≤ n → suc k ≤ length (digits n)
+digits-least zero n h = digits-some n
+digits-least (suc k) n h =
+    let l : 10 ≤ n = omega (arith, pow-suc 10 k, one-le-pow k 10 (omega arith)) in
+    let m : 10 ^ k ≤ n / 10 = omega (arith, tens n .whole, tens n .last, pow-suc 10 k) in
+    rw (digits-more n l, length-append) (omega (arith, digits-least k (n / 10) m))
+
+-- between two powers of ten
+pub digits-long : (k n : ℕ) → 10 ^ k ≤ n → n < 10 ^ suc k → suc k ≡ length (digits n)
+digits-long k n h l = omega (arith, digits-least k n h, digits-most k n l)
 
 -- ---- what they say
 

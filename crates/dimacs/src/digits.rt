@@ -8,10 +8,25 @@ ghost use Rattle.dimacs.specs.Text.{digit, digits};
 pub fn count_digits(n: usize) -> usize
     ensures { λ r. ⌜ r ≡ length (digits n) ⌝ }
 {
-    if 10 <= n {
-        return count_digits(n / 10) + 1;
+    if n < 10 {
+        return 1;
     }
-    1
+    if n < 100 {
+        return 2;
+    }
+    if n < 1_000 {
+        return 3;
+    }
+    if n < 10_000 {
+        return 4;
+    }
+    if n < 100_000 {
+        return 5;
+    }
+    if n < 1_000_000 {
+        return 6;
+    }
+    count_digits(n / 10) + 1
 }
 
 // The byte of one digit.
