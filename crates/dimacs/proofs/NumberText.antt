@@ -1,9 +1,9 @@
 -- The digits of a number: one, or those of its tenth and then the last. They are digit bytes with no leading zero, and say the number.
 use mathlib.Core.Path.{_≡_, refl}
-use mathlib.Core.List.{List, [], _∷_, _++_}
+use mathlib.Core.List.{List, [], _∷_, _++_, append-assoc}
 use Prim.Native.Nat.{ℕ, zero, suc, _+_, _-_, _*_, _/_, _%_, _^_, _≤_, _<_}
 use native.Mathlib.Omega.{arith}
-use native.Mathlib.Nat.{div-add-mod, mod-lt, pow-suc}
+use native.Mathlib.Nat.{div-add-mod, mod-lt, pow-suc, one-le-pow}
 use native.Mathlib.Decide.{decLt}
 use lib.ListN.{length, getD, length-append, List·getD-append}
 use lib.Seq.{getD-at}
@@ -56,6 +56,27 @@ pub digits-more : (n : ℕ) → 10 ≤ n → digits n ≡ digits (n / 10) ++ (di
 unfolding digits digitsWithin
 digits-more n h = rw (le-ltb n 10 h, within-same n (suc (n / 10)) (n / 10) (tens n .falls h) (omega arith))
 
+-- the last two
+abbrev pub pair : ℕ → List ℕ
+pair n = digit (n / 10) ∷ digit (n % 10) ∷ []
+
+pub digits-two : (n : ℕ) → 10 ≤ n → n < 100 → digits n ≡ pair n
+digits-two n h l =
+    let t : n / 10 < 10 = omega (arith, tens n .whole) in
+    rw (digits-more n h, digits-one (n / 10) t)
+
+pub digits-hundred : (n : ℕ) → 100 ≤ n → digits n ≡ digits (n / 100) ++ pair (n % 100)
+digits-hundred n h =
+    let a = tens n in
+    let b = tens (n / 10) in
+    let c = tens (n % 100) in
+    let w = div-add-mod n 100 in
+    let l = mod-lt n {m = 100} (omega arith) in
+    let q : n / 10 / 10 ≡ n / 100 = omega (arith, a .whole, a .last, b .whole, b .last) in
+    let d : (n / 10) % 10 ≡ n % 100 / 10 = omega (arith, a .whole, a .last, b .whole, b .last, c .whole, c .last) in
+    let e : n % 10 ≡ n % 100 % 10 = omega (arith, a .whole, a .last, b .whole, b .last, c .whole, c .last) in
+    rw (digits-more n (omega arith), digits-more (n / 10) (omega (arith, a .whole, a .last)), append-assoc, q, d, e)
+
 -- ---- how many
 
 pub digits-some : (n : ℕ) → 0 < length (digits n)
@@ -71,6 +92,17 @@ digits-most (suc k) n h = elim (decLt n 10) [
       let m : n / 10 < 10 ^ suc k = omega (arith, tens n .whole, tens n .last, pow-suc 10 (suc k)) in
       rw (digits-more n (omega arith), length-append) (omega (arith, digits-most k (n / 10) m))
 ]
+
+digits-least : (k n : ℕ) → 10 ^ k ≤ n → suc k ≤ length (digits n)
+digits-least zero n h = digits-some n
+digits-least (suc k) n h =
+    let l : 10 ≤ n = omega (arith, pow-suc 10 k, one-le-pow k 10 (omega arith)) in
+    let m : 10 ^ k ≤ n / 10 = omega (arith, tens n .whole, tens n .last, pow-suc 10 k) in
+    rw (digits-more n l, length-append) (omega (arith, digits-least k (n / 10) m))
+
+-- between two powers of ten
+pub digits-long : (k n : ℕ) → 10 ^ k ≤ n → n < 10 ^ suc k → suc k ≡ length (digits n)
+digits-long k n h l = omega (arith, digits-least k n h, digits-most k n l)
 
 -- ---- what they say
 

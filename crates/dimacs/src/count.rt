@@ -1,7 +1,6 @@
 // How many clauses accepted words hold, and how many bytes their text has.
 use crate::digits::count_digits;
 use crate::word::count;
-use crate::word::literal;
 use lists::wide;
 use literals::Literal;
 ghost use mathlib.Core.Path.{_≡_};
@@ -33,7 +32,7 @@ fn count_clause(clause: &[i32]) -> usize
 {
     let mut bytes = 0;
     for k in 0..clause.len() {
-        bytes += count_literal(literal(clause[k])) + 1;
+        bytes += count_literal(Literal::of_word(clause[k])) + 1;
     }
     bytes + 2
 }

@@ -1,6 +1,7 @@
 // Numbers in decimal digits, most significant first.
 ghost use mathlib.Core.Path.{_≡_};
-ghost use Prim.Native.Nat.{_+_, _≤_, _<_};
+ghost use mathlib.Core.List.{[], _∷_};
+ghost use Prim.Native.Nat.{_+_, _/_, _%_, _≤_, _<_};
 ghost use lib.ListN.{length};
 ghost use Rattle.lists.specs.Wrote.{Wrote};
 ghost use Rattle.dimacs.specs.Text.{digit, digits};
@@ -8,10 +9,25 @@ ghost use Rattle.dimacs.specs.Text.{digit, digits};
 pub fn count_digits(n: usize) -> usize
     ensures { λ r. ⌜ r ≡ length (digits n) ⌝ }
 {
-    if 10 <= n {
-        return count_digits(n / 10) + 1;
+    if n < 10 {
+        return 1;
     }
-    1
+    if n < 100 {
+        return 2;
+    }
+    if n < 1_000 {
+        return 3;
+    }
+    if n < 10_000 {
+        return 4;
+    }
+    if n < 100_000 {
+        return 5;
+    }
+    if n < 1_000_000 {
+        return 6;
+    }
+    count_digits(n / 10) + 1
 }
 
 // The byte of one digit.
@@ -22,14 +38,38 @@ fn digit(d: usize) -> u8
     b'0' + d as u8
 }
 
-// The digits of its tenth are written first, and then the last.
+// Two digits, of which the first may be 0.
+fn put_two(n: usize, out: &mut [u8], at: usize) -> usize
+    requires { ⌜ (n < 100) × (at + 2 ≤ length (now out)) ⌝ }
+    ensures { λ r. ⌜ Wrote (digit (n / 10) ∷ digit (n % 10) ∷ []) (now (out .entry)) at (now (out .exit)) r ⌝ }
+{
+    out[at] = digit(n / 10);
+    out[at + 1] = digit(n % 10);
+    at + 2
+}
+
+fn put_few(n: usize, out: &mut [u8], at: usize) -> usize
+    requires { ⌜ (n < 100) × (at + length (digits n) ≤ length (now out)) ⌝ }
+    ensures { λ r. ⌜ Wrote (digits n) (now (out .entry)) at (now (out .exit)) r ⌝ }
+{
+    if 10 <= n {
+        return put_two(n, out, at);
+    }
+    out[at] = digit(n);
+    at + 1
+}
+
+// The digits of its tenth are written first, and then the last. Four at most are written at once.
 pub fn put_number(n: usize, out: &mut [u8], at: usize) -> usize
     requires { ⌜ at + length (digits n) ≤ length (now out) ⌝ }
     ensures { λ r. ⌜ Wrote (digits n) (now (out .entry)) at (now (out .exit)) r ⌝ }
 {
-    if n < 10 {
-        out[at] = digit(n);
-        return at + 1;
+    if n < 100 {
+        return put_few(n, out, at);
+    }
+    if n < 10_000 {
+        let to = put_few(n / 100, out, at);
+        return put_two(n % 100, out, to);
     }
     let to = put_number(n / 10, out, at);
     out[to] = digit(n % 10);

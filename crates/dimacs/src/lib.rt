@@ -1,7 +1,7 @@
 // Clause words as DIMACS text.
 pub mod call;
-pub mod count;
+mod count;
 pub mod digits;
-pub mod read;
-pub mod word;
-pub mod write;
+mod read;
+mod word;
+mod write;

@@ -1,7 +1,6 @@
 // The text of accepted words.
 use crate::digits::put_number;
 use crate::word::count;
-use crate::word::literal;
 use lists::wide;
 use literals::Literal;
 ghost use Prim.Native.Nat.{_+_, _≤_};
@@ -29,7 +28,7 @@ fn put_clause(clause: &[i32], out: &mut [u8], at: usize) -> usize
 {
     let mut to = at;
     for k in 0..clause.len() {
-        to = put_literal(literal(clause[k]), out, to);
+        to = put_literal(Literal::of_word(clause[k]), out, to);
         out[to] = b' ';
         to += 1;
     }

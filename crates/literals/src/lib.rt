@@ -32,6 +32,14 @@ impl Literal {
         Literal { word: -(v as i32) }
     }
 
+    // Of a word that is one.
+    pub fn of_word(word: i32) -> Literal
+        requires { ⌜ IsVariable (variable word) ⌝ }
+        ensures { λ r. ⌜ r .word ≡ word ⌝ }
+    {
+        Literal { word: word }
+    }
+
     pub fn as_word(self) -> i32
         ensures { λ r. ⌜ r ≡ self .word ⌝ }
     {
