@@ -25,7 +25,7 @@ pub fn test_one(holds: bool, at: usize) -> Tested
     Tested::False(at)
 }
 
-// Whether the rule is kept whatever covers the cell. Few cells have a colour, and for the others 7 looks for no position.
+// Whether the rule is kept whatever covers the cell. Few cells have the colour, and for the others 7 looks for no position.
 pub fn spared(rule: Rule, model: &[u8], v: usize) -> bool
     requires { ⌜ Of (now model) v ⌝ }
     ensures { λ r. ⌜ r ≡ spares rule (value (now (model .entry)) v) ⌝ }
