@@ -1,11 +1,10 @@
 -- A line that is asked: its parts, and what was found in it.
-use mathlib.Core.Path.{_≡_, sym, ap}
+use mathlib.Core.Path.{_≡_, ap}
 use mathlib.Core.List.{List, _++_}
 use Prim.Native.Nat.{ℕ, _+_, _-_, _*_, _≤_, _<_}
 use native.Mathlib.Omega.{arith}
 use lib.ListN.{length, take, drop, getD, length-append}
 use lib.IntN.{ℤ}
-use lib.Seq.{length-take-le}
 use Rattle.lists.specs.Wrote.{Wrote}
 use Rattle.lists.proofs.Writing.{wrote-there, wrote-kept, wrote-then}
 use Rattle.literals.specs.Literals.{IsVariable}
@@ -56,18 +55,16 @@ module _ {ws table : List ℕ} {l from end : ℕ} (A : Located ws table l from e
     pub front-within : 64 ≤ length found → length found′ ≡ length found → n ≤ length found′
     front-within h e = omega (arith, front-few)
 
-    pub front-length : 64 ≤ length found → length found′ ≡ length found → n ≡ length (take n found′)
-    front-length h e = sym (length-take-le n found′ (front-within h e))
-
     pub front-is : take n found′ ≡ covering (lineAt (puzzle ws) l) c t
     front-is = let e : n ≡ length (covering (lineAt (puzzle ws) l) c t) = omega (arith, found-in .next-is) in rw e (wrote-there (omega arith) found-in)
 
-    pub front-asked : (rule : Rule) (v at : ℕ) (out : List ℤ) → IsVariable v → at + length (clausesWords (ruled rule v (covering (lineAt (puzzle ws) l) c t))) ≤ length out
-        → (AreVariables (take n found′) × IsVariable v) × ((length (take n found′) ≤ 64) × (at + length (clausesWords (ruled rule v (take n found′))) ≤ length out))
-    front-asked rule v at out a r = rw front-is ((covering-variables S c t, a), (covering-most S c t, r))
-
-    pub front-wrote : (rule : Rule) (v : ℕ) {at to : ℕ} {out out′ : List ℤ} → Wrote (clausesWords (ruled rule v (take n found′))) out at out′ to → Wrote (clausesWords (ruled rule v (covering (lineAt (puzzle ws) l) c t))) out at out′ to
-    front-wrote rule v u = rw front-is at u
+-- what a rule then writes
+module _ {ws table : List ℕ} {l : ℕ} (R : Ready ws table) (h : l < lines (puzzle ws)) (c t : ℕ) {us : List ℕ} (e : us ≡ covering (lineAt (puzzle ws) l) c t) where
+  pub found-asked : (rule : Rule) (v at : ℕ) (out : List ℤ) → IsVariable v → at + length (clausesWords (ruled rule v (covering (lineAt (puzzle ws) l) c t))) ≤ length out
+      → (AreVariables us × IsVariable v) × ((length us ≤ 64) × (at + length (clausesWords (ruled rule v us)) ≤ length out))
+  found-asked rule v at out a r =
+      let S = ready-sound ws table R l h in
+      rw e ((covering-variables S c t, a), (covering-most S c t, r))
 
 -- two lists of clauses, one after the other
 module _ (cs ds : List Clause) (out : List ℤ) (at : ℕ) (h : at + length (clausesWords (cs ++ ds)) ≤ length out) where

@@ -10,7 +10,8 @@ use borrow.Author.Tests.{ltb-true, leb-true, lt-ltb, le-ltb, le-leb, lt-leb}
 use Rattle.lists.specs.Each.{each, when}
 use Rattle.lists.specs.Wrote.{Wrote}
 use Rattle.lists.proofs.Emitting.{Emitting, emit-first, emit-room, emit-next, emit-done}
-use Rattle.lists.proofs.Writing.{wrote-none, wrote-store}
+use Rattle.lists.proofs.Eaches.{rest}
+use Rattle.lists.proofs.Writing.{wrote-none, wrote-store, fill-done}
 use Rattle.lists.proofs.Tests.{both}
 use Rattle.cells.specs.Found.{coveringBlock}
 
@@ -44,6 +45,14 @@ module _ (v start size t : ℕ) where
   pub block-most : (p : ℕ) → length (coveringBlock v p start size t) ≤ size
   block-most p = omega (arith, within p .1)
 
+  -- none of those that begin behind t
+  late : (n i : ℕ) → t < start + i → each n (λ k. when (reaching start size t (i + k)) ((v + (i + k)) ∷ [])) ≡ []
+  unfolding each
+  late zero i l = refl
+  late (suc n) i l =
+      let far : leb (start + (i + n)) t ≡ false = lt-leb (start + (i + n)) t (omega arith) in
+      rw (late n i l, far)
+
   -- the loop that finds them
   module _ (p : ℕ) where
     abbrev pub Reaching : List ℕ → ℕ → List ℕ → ℕ → ℕ → Type 0
@@ -57,8 +66,10 @@ module _ (v start size t : ℕ) where
       skip : reaching start size t i ≡ false → Reaching found₀ at₀ found at (i + 1)
       skip e = emit-next E h (rw e (wrote-none found at))
 
-      pub reaching-late : t < start + i → Reaching found₀ at₀ found at (i + 1)
-      reaching-late l = skip (rw (lt-leb (start + i) t l))
+      -- the positions from here on begin behind the cell
+      pub reaching-late : t < start + i → Wrote (coveringBlock v p start size t) found₀ at₀ found at
+      unfolding coveringBlock rest
+      reaching-late l = fill-done (E .fill) (late (p - i) i l)
 
       pub reaching-early : start + i ≤ t → start + i + size ≤ t → Reaching found₀ at₀ found at (i + 1)
       reaching-early l m = skip (rw (le-leb (start + i) t l, le-ltb t (start + i + size) m))

@@ -1,10 +1,8 @@
 // Sections 7 and 8: cells column by column, top to bottom; per cell its colours; per colour the column, then the row.
-use crate::covering::covering_positions;
+use crate::covering::find_covering;
 use crate::rule::Rule;
 use crate::support::rule_clauses;
 use boards::board::Board;
-use boards::table::clue_end;
-use lists::wide;
 use literals::number;
 ghost use mathlib.Core.Path.{_≡_};
 ghost use mathlib.Core.List.{_++_};
@@ -44,16 +42,7 @@ fn cover_line(
     requires { ⌜ at + length (clausesWords (asked (puzzle (now words)) ask l t)) ≤ length (now out) ⌝ }
     ensures { λ r. ⌜ Wrote (clausesWords (asked (puzzle (now (words .entry))) ask l t)) (now (out .entry)) at (now (out .exit)) r ⌝ }
 {
-    let place = 68 * l;
-    let begin = wide(table[place]);
-    let end = clue_end(words, begin);
-    let n = covering_positions(
-        &table[place..place + 68],
-        &words[begin + 1..end],
-        ask.color,
-        t,
-        found,
-    );
+    let n = find_covering(words, table, l, t, ask.color, found);
     let rule = ask.rule;
     rule_clauses(rule, &found[..n], ask.v, out, at)
 }

@@ -1,6 +1,6 @@
 -- What 7 and 8 say of a cell variable and the positions that were found, tested.
 use mathlib.Core.Path.{_≡_, refl, sym, ap, _∙_}
-use mathlib.Core.Bool.{Bool, true, false, not, or-true, or-false}
+use mathlib.Core.Bool.{Bool, true, false, not, or-true, or-false, false≢true}
 use mathlib.Core.List.{List, [], _∷_, _++_, map}
 use Prim.Native.Nat.{ℕ, _+_, _^_, _≤_, _<_}
 use native.Mathlib.Omega.{arith}
@@ -8,6 +8,7 @@ use native.Mathlib.Nat.{add-zero}
 use lib.IntN.{ℤ}
 use lib.ListN.{length, getD, length-map}
 use Rattle.lists.specs.Each.{tab}
+use Rattle.lists.proofs.Tests.{not-true}
 use Rattle.lists.proofs.Eaches.{rest, rest-first, rest-next, rest-done}
 use Rattle.literals.specs.Literals.{positive, negative}
 use Rattle.sections.specs.Sections.{Clause}
@@ -16,10 +17,13 @@ use Rattle.truth.specs.Tested.{tested, said, Countable}
 use Rattle.truth.specs.declared.Tested.{Tested}
 use Rattle.truth.specs.declared.Tested.the-variants.{Fine, False}
 use Rattle.truth.proofs.Testing.{Testing, testing-first, testing-stop, testing-next, testing-done}
+use Rattle.truth.proofs.JoinedTests.{joined-done}
 use Rattle.truth.proofs.RowTests.{negative-true, one-true, one-false, tab-true}
+use Rattle.cells.specs.declared.rule.Rule.{Rule}
 use Rattle.cells.specs.declared.rule.Rule.the-variants.{Color, Space}
 use Rattle.cells.specs.Cells.{ruled}
 use Rattle.cells.proofs.Ruling.{map-each, space-each}
+use Rattle.colored.specs.Models.{spares}
 
 module _ (v : ℕ) (us : List ℕ) where
   -- ---- how many they say
@@ -71,7 +75,7 @@ module _ (β : Assignment) where
   module _ (v : ℕ) (us : List ℕ) (p : ℕ) where
     -- ---- 7
 
-    pub color-off : 0 < v → β v ≡ false → said (Fine (p + 1)) ≡ tested β p (ruled Color v us)
+    color-off : 0 < v → β v ≡ false → said (Fine (p + 1)) ≡ tested β p (ruled Color v us)
     unfolding ruled
     color-off h e = one-true β p _ (last-true (map positive us) (negative v) (negative-true β v h ∙ rw e))
 
@@ -111,3 +115,13 @@ module _ (β : Assignment) where
       space-done h =
           let e : p + i ≡ p + length us = omega (arith, T .room, space-length v us) in
           rw (← e) (testing-done T h)
+
+-- ---- what the rule spares, of two lines: a clause each, both true
+
+module _ (β : Assignment) (v : ℕ) (us ws : List ℕ) (p : ℕ) where
+  pub spared-true : (rule : Rule) → 0 < v → spares rule (β v) ≡ true → said (Fine (p + 2)) ≡ tested β p (ruled rule v us ++ ruled rule v ws)
+  spared-true Color h e =
+      let off = not-true (β v) e in
+      let q : p + 1 + 1 ≡ p + 2 = omega arith in
+      rw (← q) (joined-done β p _ _ (Fine (p + 1)) (color-off β v us p h off) refl (Fine (p + 1 + 1)) (color-off β v ws (p + 1) h off))
+  spared-true Space h e = absurd (false≢true e)

@@ -1,10 +1,18 @@
--- Variables that a model gives a value.
+-- Variables that a model gives a value, and what a rule asks where a cell variable has it.
+use mathlib.Core.Bool.{Bool, false, not}
 use mathlib.Core.List.{List}
 use Prim.Native.Nat.{ℕ, _≤_, _<_}
 use lib.ListN.{length, getD}
+use Rattle.cells.specs.declared.rule.Rule.{Rule}
+use Rattle.cells.specs.declared.rule.Rule.the-variants.{Color, Space}
 
 abbrev pub Of : List ℕ → ℕ → Type 0
 Of model v = (0 < v) × (v ≤ length model)
 
 abbrev pub AllOf : List ℕ → List ℕ → Type 0
 AllOf model us = (i : ℕ) → i < length us → Of model (getD us i 0)
+
+-- the rule is kept whatever covers the cell: 7, where the cell variable is not true
+abbrev pub spares : Rule → Bool → Bool
+spares Color on = not on
+spares Space on = false

@@ -1,5 +1,4 @@
 // Whether a model colours the cells: families 7 to 10 tested, with no clause written.
-mod line;
 pub mod once;
 pub mod precomputed;
 pub mod section;

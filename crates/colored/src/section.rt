@@ -1,12 +1,15 @@
 // Families 7 and 8: cells column by column, top to bottom; per cell its colours; per colour the column, then the row.
-use crate::line::test_line;
+use crate::support::spared;
+use crate::support::test_found;
 use boards::board::Board;
+use cells::covering::find_covering;
 use cells::rule::Rule;
 use cells::section::Ask;
 use truth::Tested;
 ghost use mathlib.Core.Path.{_≡_};
+ghost use mathlib.Core.Bool.{false};
 ghost use mathlib.Core.List.{_++_};
-ghost use Prim.Native.Nat.{_+_, _<_};
+ghost use Prim.Native.Nat.{_+_, _≤_, _<_};
 ghost use lib.ListN.{length};
 ghost use Rattle.lists.specs.Each.{each};
 ghost use Rattle.puzzles.specs.Puzzle as P;
@@ -18,7 +21,28 @@ ghost use Rattle.truth.specs.Tested.{tested, said, Countable};
 ghost use Rattle.cells.specs.Cells.{ofCells};
 ghost use Rattle.cells.specs.Asked.{asked};
 ghost use Rattle.cells.specs.Given.{Given, ofCell};
-ghost use Rattle.colored.specs.Models.{Of};
+ghost use Rattle.colored.specs.Models.{Of, spares};
+
+// Of line l and its cell t.
+fn test_line(
+    words: &[u32],
+    table: &[u32],
+    l: usize,
+    t: usize,
+    ask: Ask,
+    model: &[u8],
+    found: &mut [usize],
+    at: usize,
+) -> Tested
+    requires { ⌜ Ready (now words) (now table) ⌝ }
+    requires { ⌜ (l < P.lines (puzzle (now words))) × (64 ≤ length (now found)) × (length (now model) ≡ variables (puzzle (now words))) × Of (now model) (ask .v) ⌝ }
+    requires { ⌜ (spares (ask .rule) (value (now model) (ask .v)) ≡ false) × Countable at (asked (puzzle (now words)) ask l t) ⌝ }
+    ensures { λ r. ⌜ said r ≡ tested (value (now (model .entry))) at (asked (puzzle (now (words .entry))) ask l t) ⌝ }
+{
+    let n = find_covering(words, table, l, t, ask.color, found);
+    let rule = ask.rule;
+    test_found(rule, model, &found[..n], ask.v, at)
+}
 
 // Of the cell of column x and row y.
 fn test_color(
@@ -38,6 +62,10 @@ fn test_color(
     requires { ⌜ Countable at (asked (puzzle (now words)) ask x y ++ asked (puzzle (now words)) ask (width + y) x) ⌝ }
     ensures { λ r. ⌜ said r ≡ tested (value (now (model .entry))) at (asked (puzzle (now (words .entry))) ask x y ++ asked (puzzle (now (words .entry))) ask (width + y) x) ⌝ }
 {
+    let rule = ask.rule;
+    if spared(rule, model, ask.v) {
+        return Tested::Fine(at + 2);
+    }
     let row = width + y;
     let column = test_line(words, table, x, y, ask, model, found, at);
     let Tested::Fine(next) = column else {

@@ -1,7 +1,9 @@
 // Tests of a single clause, and of a cell variable and the positions that were found.
+use cells::rule::Rule;
 use truth::Tested;
 use truth::on;
 ghost use mathlib.Core.Path.{_≡_};
+ghost use mathlib.Core.Bool.{false};
 ghost use mathlib.Core.List.{[], _∷_, map};
 ghost use Prim.Native.Nat.{_+_, _^_, _<_};
 ghost use Rattle.literals.specs.Literals.{positive};
@@ -10,7 +12,7 @@ ghost use Rattle.truth.specs.Truth.{Assignment, value, clauseTrue};
 ghost use Rattle.truth.specs.Tested.{tested, said, Countable};
 ghost use Rattle.cells.specs.Cells.{ruled};
 ghost use Rattle.cells.specs.declared.rule.Rule.the-variants.{Space};
-ghost use Rattle.colored.specs.Models.{Of, AllOf};
+ghost use Rattle.colored.specs.Models.{Of, AllOf, spares};
 
 // One clause, of which it is known whether it holds.
 pub fn test_one(holds: bool, at: usize) -> Tested
@@ -23,8 +25,19 @@ pub fn test_one(holds: bool, at: usize) -> Tested
     Tested::False(at)
 }
 
+// Whether the rule is kept whatever covers the cell. Few cells have the colour, and for the others 7 looks for no position.
+pub fn spared(rule: Rule, model: &[u8], v: usize) -> bool
+    requires { ⌜ Of (now model) v ⌝ }
+    ensures { λ r. ⌜ r ≡ spares rule (value (now (model .entry)) v) ⌝ }
+{
+    match rule {
+        Rule::Color => !on(model, v),
+        Rule::Space => false,
+    }
+}
+
 // Whether some position is on.
-pub fn some_on(model: &[u8], found: &[usize]) -> bool
+fn some_on(model: &[u8], found: &[usize]) -> bool
     requires { ⌜ AllOf (now model) (now found) ⌝ }
     ensures { λ r. ⌜ r ≡ clauseTrue (value (now (model .entry))) (map positive (now (found .entry))) ⌝ }
 {
@@ -37,7 +50,7 @@ pub fn some_on(model: &[u8], found: &[usize]) -> bool
 }
 
 // 8: a cell that is covered has the colour.
-pub fn test_space(model: &[u8], found: &[usize], v: usize, at: usize) -> Tested
+fn test_space(model: &[u8], found: &[usize], v: usize, at: usize) -> Tested
     requires { ⌜ AllOf (now model) (now found) × Of (now model) v ⌝ }
     requires { ⌜ Countable at (ruled Space v (now found)) ⌝ }
     ensures { λ r. ⌜ said r ≡ tested (value (now (model .entry))) at (ruled Space v (now (found .entry))) ⌝ }
@@ -52,4 +65,16 @@ pub fn test_space(model: &[u8], found: &[usize], v: usize, at: usize) -> Tested
         }
     }
     Tested::Fine(at + n)
+}
+
+// What the rule says of them, where it is not spared. 7: a cell that has the colour is covered.
+pub fn test_found(rule: Rule, model: &[u8], found: &[usize], v: usize, at: usize) -> Tested
+    requires { ⌜ AllOf (now model) (now found) × Of (now model) v × (spares rule (value (now model) v) ≡ false) ⌝ }
+    requires { ⌜ Countable at (ruled rule v (now found)) ⌝ }
+    ensures { λ r. ⌜ said r ≡ tested (value (now (model .entry))) at (ruled rule v (now (found .entry))) ⌝ }
+{
+    match rule {
+        Rule::Color => test_one(some_on(model, found), at),
+        Rule::Space => test_space(model, found, v, at),
+    }
 }

@@ -23,8 +23,7 @@ covering-block-spec =
     μ-loop
     (λ c. reaching-first _ _ _ _ _ _ _ (c .pre .1))
     (λ c. search needs)
-    (λ c. search needs)
-    (λ c. search needs)
+    (λ c. emit-kept (c .before .before .loop .inv))
     (λ c. reaching-late _ _ _ _ _ (c .before .before .loop .inv) (c .before .loop-test .taken) (c .if1 .taken))
     (λ c. search needs)
     (λ c. search needs)

@@ -1,36 +1,18 @@
-use native.Mathlib.Omega.{arith}
-use Rattle.numbering.proofs.Parts.{ready-within}
-use Rattle.cells.proofs.Asking.{Located, clue-within, part-sound, part-long, front-within, front-length, front-asked, front-wrote}
+use mathlib.Core.Path.{sym}
+use lib.Seq.{length-take-le}
+use Rattle.cells.proofs.Asking.{found-asked}
 use borrow.Author.Needs.{needs}
 use Rattle.cells.proofs.section.cover_line.Statement.{statement}
 use Rattle.cells.proofs.section.cover_line.Tie as tie
-
-located : (c : tie.After-clue-end) → Located (c .before .before .before .before .before .before .args .words .now) (c .before .before .before .before .before .before .args .table .now) (c .before .before .before .before .before .before .args .l) (c .before .wide .result) (c .clue-end .result)
-located c = record { ready = c .before .before .before .before .before .before .pre .0; below = c .before .before .before .before .before .before .pre .1 .0 .0; from-is = c .before .wide .ensures; end-is = c .clue-end .ensures }
 
 pub cover-line-spec : {M : Type 1} → statement M
 cover-line-spec =
     tie.close
     (tie.spec
-    (λ c. search needs)
-    (λ c. search needs)
-    (λ c. search needs)
     (λ c κs. search needs)
-    (λ c κs. ready-within _ _ (c .before .before .before .before .before .pre .0) _ (c .before .before .before .before .before .pre .1 .0 .0) (c .wide .ensures))
+    (λ c. search needs)
+    (λ c. sym (length-take-le _ _ (c .before .before .before .find-covering .ensures .0)))
+    (λ c κs. found-asked (c .before .before .before .before .before .before .before .before .before .pre .0) (c .before .before .before .before .before .before .before .before .before .pre .1 .0 .0) _ _ (c .before .before .before .before .find-covering .ensures .1) _ _ _ (c .before .before .before .before .before .before .before .before .before .args .out .now) (c .before .before .before .before .before .before .before .before .before .pre .1 .0 .1) (c .before .before .before .before .before .before .before .before .before .pre .1 .1))
     (λ c. search needs)
     (λ c. search needs)
-    (λ c. search needs)
-    (λ c. search needs)
-    (λ c. search needs)
-    (λ c. search needs)
-    (λ c. omega (arith, clue-within (located (c .before))))
-    (λ c. search needs)
-    (λ c. search needs)
-    (λ c. clue-within (located (c .before)))
-    (λ c κs. (part-sound (located (c .before .before .before)), (part-long (located (c .before .before .before)), c .before .before .before .before .before .before .before .before .before .pre .1 .0 .2)))
-    (λ c. front-within (located (c .before .before .before .before .before .before)) _ _ (c .before .before .covering-positions .ensures) (c .before .before .before .before .before .before .before .before .before .before .before .before .pre .1 .0 .2) (c .before .before .covering-positions .kept .1 .1 .1 .1 .0))
-    (λ c. front-length (located (c .before .before .before .before .before .before .before)) _ _ (c .before .before .before .covering-positions .ensures) (c .before .before .before .before .before .before .before .before .before .before .before .before .before .pre .1 .0 .2) (c .before .before .before .covering-positions .kept .1 .1 .1 .1 .0))
-    (λ c κs. front-asked (located (c .before .before .before .before .before .before .before .before)) _ _ (c .before .before .before .before .covering-positions .ensures) _ _ _ (c .before .before .before .before .before .before .before .before .before .before .before .before .before .before .args .out .now) (c .before .before .before .before .before .before .before .before .before .before .before .before .before .before .pre .1 .0 .1) (c .before .before .before .before .before .before .before .before .before .before .before .before .before .before .pre .1 .1))
-    (λ c. c .before .before .before .before .before .before .covering-positions .kept .1 .1 .1 .1 .0)
-    (λ c. c .before .rule-clauses .kept .1 .1 .1 .0)
-    (λ c. front-wrote (located (c .before .before .before .before .before .before .before .before .before .before)) _ _ (c .before .before .before .before .before .before .covering-positions .ensures) _ _ (c .before .rule-clauses .ensures)))
+    (λ c. rw (c .before .before .before .before .before .before .find-covering .ensures .1) at (c .before .rule-clauses .ensures)))

@@ -1,9 +1,9 @@
 use native.Mathlib.Omega.{arith}
 use Rattle.numbering.proofs.Parts.{ready-within}
 use Rattle.cells.proofs.Asking.{Located, clue-within, part-sound, part-long, front-within, front-is}
 use borrow.Author.Needs.{needs}
-use Rattle.colored.proofs.line.find_covering.Statement.{statement}
-use Rattle.colored.proofs.line.find_covering.Tie as tie
+use Rattle.cells.proofs.covering.find_covering.Statement.{statement}
+use Rattle.cells.proofs.covering.find_covering.Tie as tie
 
 located : (c : tie.After-clue-end) → Located (c .before .before .before .before .before .before .args .words .now) (c .before .before .before .before .before .before .args .table .now) (c .before .before .before .before .before .before .args .l) (c .before .wide .result) (c .clue-end .result)
 located c = record { ready = c .before .before .before .before .before .before .pre .0; below = c .before .before .before .before .before .before .pre .1 .0; from-is = c .before .wide .ensures; end-is = c .clue-end .ensures }
