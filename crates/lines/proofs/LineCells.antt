@@ -71,8 +71,8 @@ runs-words size c (x ∷ l) = go (eqb x c) refl (runs-words (size + 1) c l) (run
 
 pub record Counting (line : List ℕ) (count c i : ℕ) : Type 0 where
   pub within : i ≤ length line
-  pub few : count ≤ 2 * i
-  pub counted : length (lineWords line) ≡ count + begun c (drop i line)
+  pub few : count ≤ i
+  pub counted : length (lineWords line) ≡ 2 * count + begun c (drop i line)
 
 pub counting-first : (line : List ℕ) → Counting line 0 0 0
 unfolding lineWords runs
@@ -84,9 +84,9 @@ module _ {line : List ℕ} {count c i : ℕ} (C : Counting line count c i) where
     unfolding begun
     begun-next = rw (drop-one 0 line i h)
 
-    pub counting-same : getD line i 0 ≡ c → Counting line count c (i + 1)
+    pub counting-same : getD line i 0 ≡ c → Counting line count (getD line i 0) (i + 1)
     counting-same e =
-        let n : begun c (drop i line) ≡ begun c (drop (i + 1) line) = begun-next ∙ rw (e, eq-eqb c c refl) (omega arith) in
+        let b : begun c (drop i line) ≡ 0 + begun (getD line i 0) (drop (i + 1) line) = begun-next ∙ rw (eq-eqb _ _ e) in
         record { within = omega arith; few = omega arith; counted = omega (arith, C .counted) }
 
     module _ (n : getD line i 0 ≡ c → ⊥) where
@@ -95,12 +95,12 @@ module _ {line : List ℕ} {count c i : ℕ} (C : Counting line count c i) where
           let b : begun c (drop i line) ≡ 0 + begun (getD line i 0) (drop (i + 1) line) = begun-next ∙ rw (ne-eqb _ _ n, eq-eqb _ _ e) in
           record { within = omega arith; few = omega arith; counted = omega (arith, C .counted) }
 
-      pub counting-some : (getD line i 0 ≡ 0 → ⊥) → Counting line (count + 2) (getD line i 0) (i + 1)
+      pub counting-some : (getD line i 0 ≡ 0 → ⊥) → Counting line (count + 1) (getD line i 0) (i + 1)
       counting-some e =
           let b : begun c (drop i line) ≡ 2 + begun (getD line i 0) (drop (i + 1) line) = begun-next ∙ rw (ne-eqb _ _ n, ne-eqb _ _ e) in
           record { within = omega arith; few = omega arith; counted = omega (arith, C .counted) }
 
-  pub counting-done : length line ≤ i → count ≡ length (lineWords line)
+  pub counting-done : length line ≤ i → 2 * count ≡ length (lineWords line)
   unfolding begun
   counting-done h = sym (C .counted ∙ rw (drop-of-length-le line h) (omega arith))
 
