@@ -1,4 +1,5 @@
 pub mod Clue
 pub mod Line
+pub mod Strided
 pub mod Arrangement
 pub mod Calls

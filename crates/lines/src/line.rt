@@ -11,6 +11,7 @@ ghost use Rattle.refusals.specs.Told.{told};
 ghost use Rattle.refusals.specs.Outcome.{Answers};
 ghost use Rattle.lines.specs.Clue.{words};
 ghost use Rattle.lines.specs.Line.{run};
+ghost use Rattle.lines.specs.Strided.{strided, Strided};
 ghost use Rattle.lines.specs.Calls.{byteChecks, lineChecks, lineWords};
 
 // A byte that none exceeds: a walk with no way out, many bytes at a time.
@@ -82,25 +83,40 @@ fn put_run(size: u32, color: u8, out: &mut [u32], at: usize) -> usize
     put_pair(size, color as u32, out, at)
 }
 
+// Writes the runs of n cells, each a step after the one before.
+pub fn put_runs(
+    cells: &[u8],
+    from: usize,
+    step: usize,
+    n: usize,
+    out: &mut [u32],
+    at: usize,
+) -> usize
+    requires { ⌜ Strided from step n (now cells) × (at + length (lineWords (strided from step n (now cells))) ≤ length (now out)) ⌝ }
+    ensures { λ r. ⌜ Wrote (lineWords (strided from step n (now (cells .entry)))) (now (out .entry)) at (now (out .exit)) r ⌝ }
+{
+    let mut to = at;
+    let mut size: u32 = 0;
+    let mut color: u8 = 0;
+    for i in 0..n {
+        let next = cells[i * step + from];
+        if next == color {
+            size += 1;
+            continue;
+        }
+        to = put_run(size, color, out, to);
+        size = 1;
+        color = next;
+    }
+    put_run(size, color, out, to)
+}
+
 // Writes the runs of a line.
 pub fn from_line(line: &[u8], out: &mut [u32]) -> usize
     requires { ⌜ (length (now line) ≤ 64) × (length (lineWords (now line)) ≤ length (now out)) ⌝ }
     ensures { λ r. ⌜ Wrote (lineWords (now (line .entry))) (now (out .entry)) 0 (now (out .exit)) r ⌝ }
 {
-    let mut at = 0;
-    let mut size: u32 = 0;
-    let mut color: u8 = 0;
-    for i in 0..line.len() {
-        let next = line[i];
-        if next == color {
-            size += 1;
-            continue;
-        }
-        at = put_run(size, color, out, at);
-        size = 1;
-        color = next;
-    }
-    put_run(size, color, out, at)
+    put_runs(line, 0, 1, line.len(), out, 0)
 }
 
 // The maximal runs of one non-blank colour, as size and colour pairs.
