@@ -49,7 +49,7 @@ module _ (size c : ℕ) (l : List ℕ) (i : ℕ) where
 
 -- ---- how many words: two for each cell that begins a run, where the cell before the list has colour c
 
-pub begun : ℕ → List ℕ → ℕ
+unfoldable pub begun : ℕ → List ℕ → ℕ
 begun c [] = 0
 begun c (x ∷ l) = cond (eqb x c || eqb x 0) 0 2 + begun x l
 
@@ -72,14 +72,17 @@ runs-words size c (x ∷ l) = go (eqb x c) refl (runs-words (size + 1) c l) (run
     go true e same next = rw (e, eqb-true x c e) (omega (arith, same))
     go false e same next = rw (e, words-append (run size c) (runsFrom 1 x l), length-append) (omega (arith, run-words size c, next))
 
+pub line-begun : (line : List ℕ) → length (lineWords line) ≡ begun 0 line
+unfolding lineWords runs
+line-begun line = runs-words 0 0 line ∙ omega arith
+
 pub record Counting (line : List ℕ) (count c i : ℕ) : Type 0 where
   pub within : i ≤ length line
   pub few : count ≤ i
   pub counted : length (lineWords line) ≡ 2 * count + begun c (drop i line)
 
 pub counting-first : (line : List ℕ) → Counting line 0 0 0
-unfolding lineWords runs
-counting-first line = record { within = omega arith; few = omega arith; counted = runs-words 0 0 line }
+counting-first line = record { within = omega arith; few = omega arith; counted = line-begun line ∙ omega arith }
 
 module _ {line : List ℕ} {count c i : ℕ} (C : Counting line count c i) where
   module _ (h : i < length line) where
