@@ -15,6 +15,7 @@ ghost use Rattle.lists.specs.Wrote.{Wrote};
 ghost use Rattle.refusals.specs.Told.{told};
 ghost use Rattle.refusals.specs.Outcome.{Answers};
 ghost use Rattle.grids.specs.Grid.{gridChecks, gridWords};
+ghost use Rattle.grids.specs.Mask.{Colored};
 ghost use Rattle.grids.specs.Sized.{Sized};
 
 // The size, then the bytes.
@@ -38,7 +39,7 @@ fn count_grid(width: usize, height: usize, grid: &[u8]) -> usize
 
 // Writes the columns, the rows and the cells.
 fn put_grid(width: usize, height: usize, grid: &[u8], out: &mut [u32]) -> usize
-    requires { ⌜ Sized width height (now grid) × (length (gridWords width height (now grid)) ≤ length (now out)) ⌝ }
+    requires { ⌜ Sized width height (now grid) × Colored (now grid) × (length (gridWords width height (now grid)) ≤ length (now out)) ⌝ }
     ensures { λ r. ⌜ Wrote (gridWords width height (now (grid .entry))) (now (out .entry)) 0 (now (out .exit)) r ⌝ }
 {
     let rows = put_clues(width, 1, width, height, grid, out, 0);

@@ -10,19 +10,19 @@ put-grid-spec =
     tie.close
     (tie.spec
     (λ c κs. let b = c .before .before .before in
-    (columns-laid (b .pre .0), columns-room (b .pre .0) (b .args .out .now) (b .pre .1)))
+    (columns-laid (b .pre .0), columns-room (b .pre .0) (b .args .out .now) (b .pre .2)))
     (λ c κs. let p = c .before .before .before .before .before .before .before .pre in
     let a = c .before .before .before .put-clues in
-    (rows-laid (p .0), rows-room (p .0) _ (p .1) (a .ensures) (a .kept .1 .1 .1 .1 .1 .0)))
-    (λ c κs. search needs)
+    (rows-laid (p .0), rows-room (p .0) _ (p .2) (a .ensures) (a .kept .1 .1 .1 .1 .1 .0)))
+    (λ c κs. c .before .before .before .before .before .before .before .before .before .before .pre .1)
     (λ c κs. let b = c .before .before .before .before in
     let a = b .before .before .before .before .put-clues in
     let p = b .before .before .before .before .before .before .before .before .pre in
     let k = a .kept .1 .1 .1 .1 .1 .0 in
-    (sized-most (p .0), cells-room (p .0) _ (p .1) (a .ensures) k (b .put-clues2 .ensures) (b .put-clues2 .kept .1 .1 .1 .1 .1 .0 ∙ k)))
+    (sized-most (p .0), cells-room (p .0) _ (p .2) (a .ensures) k (b .put-clues2 .ensures) (b .put-clues2 .kept .1 .1 .1 .1 .1 .0 ∙ k)))
     (λ c. let b = c .before .before .before .before .before .before .before in
     c .before .before .put-masks .kept .1 .1 .0 ∙ b .put-clues2 .kept .1 .1 .1 .1 .1 .0 ∙ b .before .before .before .before .put-clues .kept .1 .1 .1 .1 .1 .0)
     (λ c. let b = c .before .before .before .before .before .before .before in
     let a = b .before .before .before .before .put-clues in
     let p = b .before .before .before .before .before .before .before .before .pre in
-    grid-wrote (p .0) _ (p .1) (a .ensures) (a .kept .1 .1 .1 .1 .1 .0) (b .put-clues2 .ensures) (c .before .before .before .before .cells-mask .ensures) (c .before .before .put-masks .ensures)))
+    grid-wrote (p .0) _ (p .2) (a .ensures) (a .kept .1 .1 .1 .1 .1 .0) (b .put-clues2 .ensures) (c .before .before .before .before .cells-mask .ensures) (c .before .before .put-masks .ensures)))

@@ -2,7 +2,7 @@ use mathlib.Core.Path.{sym, ap, _∙_}
 use native.Mathlib.Omega.{arith}
 use Rattle.refusals.specs.Told.{told}
 use Rattle.refusals.proofs.Answering.{answers-refused, answers-short, answers-wrote}
-use Rattle.grids.proofs.Checking.{grid-sized}
+use Rattle.grids.proofs.Checking.{grid-sized, grid-colored}
 use borrow.Author.Needs.{needs}
 use Rattle.grids.proofs.read.read_grid.Statement.{statement}
 use Rattle.grids.proofs.read.read_grid.Tie as tie
@@ -19,7 +19,8 @@ read-grid-spec =
     (λ c. let b = c .before .before in
     answers-short _ _ (sym (ap told (b .enum-told .given .1)) ∙ b .before .before .check-grid .ensures) (c .before .count-grid .ensures) (c .if1 .taken))
     (λ c κs. let b = c .before .before .before in
-    (grid-sized _ _ _ (sym (ap told (b .enum-told .given .1)) ∙ b .before .before .check-grid .ensures), omega (arith, c .before .before .count-grid .ensures)))
+    let e = sym (ap told (b .enum-told .given .1)) ∙ b .before .before .check-grid .ensures in
+    (grid-sized _ _ _ e, grid-colored _ _ _ e, omega (arith, c .before .before .count-grid .ensures)))
     (λ c. c .before .before .put-grid .kept .1 .1 .1 .0)
     (λ c. let b = c .before .before .before .before in
     let t = b .before .before in
