@@ -4,9 +4,9 @@ use mathlib.Core.Bool.{true, false, not}
 use mathlib.Core.List.{List}
 use Prim.Native.Nat.{ℕ, _*_, _<_}
 use native.Mathlib.Omega.{arith}
-use lib.ListN.{length}
+use lib.ListN.{length, getD}
 use lib.Dec.{eqb, ltb}
-use borrow.Author.Tests.{eq-eqb, ne-eqb, eqb-true, eqb-false, not-false}
+use borrow.Author.Tests.{eq-eqb, ne-eqb, eqb-true, eqb-false, ltb-false, not-false}
 use Rattle.lists.proofs.Tests.{neither}
 use Rattle.refusals.specs.Verdict.{accepted, refused}
 use Rattle.refusals.specs.Told.{told}
@@ -14,9 +14,11 @@ use Rattle.refusals.specs.declared.Refusal.{Refusal}
 use Rattle.refusals.specs.declared.Answer.{Answer}
 use Rattle.refusals.specs.declared.Answer.the-variants.{Refused}
 use Rattle.refusals.proofs.Answering.{handed-up, refuse-accepted, then-accepted, first-accepted}
+use Rattle.refusals.proofs.Offending.{none-off}
 use Rattle.lines.specs.Calls.{offSize, byteChecks}
 use Rattle.lines.proofs.Checks.{size-within}
 use Rattle.grids.specs.Grid.{sizeChecks, gridChecks}
+use Rattle.grids.specs.Mask.{Colored}
 use Rattle.grids.specs.Sized.{Sized}
 
 module _ (w h : ℕ) (grid : List ℕ) where
@@ -75,3 +77,6 @@ module _ (w h : ℕ) (grid : List ℕ) where
     pub grid-bytes : accepted n ≡ byteChecks grid
     unfolding gridChecks
     grid-bytes = then-accepted (sizeChecks w h grid) _ e
+
+    pub grid-colored : Colored grid
+    grid-colored = record { low = λ i l. ltb-false 31 (getD grid i 0) (none-off 0 (ltb 31) 18 0 grid grid-bytes i l) }

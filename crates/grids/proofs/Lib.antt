@@ -3,5 +3,6 @@ pub mod Cells
 pub mod CellMasks
 pub mod Checking
 pub mod ClueSections
+pub mod ColumnWords
 pub mod GridColors
 pub mod GridWords

@@ -1,7 +1,8 @@
 -- The mask of every cell, as it is found in one walk over the cells.
 use mathlib.Core.Bool.{cond}
 use mathlib.Core.List.{List, foldl}
-use Prim.Native.Nat.{ℕ}
+use Prim.Native.Nat.{ℕ, _≤_, _<_}
+use lib.ListN.{length, getD}
 use lib.Dec.{eqb}
 use Rattle.bits.specs.Bits.{withBit}
 
@@ -12,3 +13,7 @@ cellColors grid = foldl withBit 1 grid
 -- and where no cell has a colour, bits 0 and 1
 unfoldable pub cellsMask : List ℕ → ℕ
 cellsMask grid = cond (eqb (cellColors grid) 1) 3 (cellColors grid)
+
+-- every cell is blank or has a colour
+pub record Colored (grid : List ℕ) : Type 0 where
+  pub low : (i : ℕ) → i < length grid → getD grid i 0 ≤ 31

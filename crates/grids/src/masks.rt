@@ -1,26 +1,28 @@
 // The mask of every cell of a grid: bit 0 and the colour set.
-use bits::mask::with;
+use bits::mask::set;
 ghost use mathlib.Core.Path.{_≡_};
 ghost use Prim.Native.Nat.{_+_, _≤_};
 ghost use lib.ListN.{length};
 ghost use Rattle.lists.specs.Each.{tab};
 ghost use Rattle.lists.specs.Wrote.{Wrote};
 ghost use Rattle.puzzles.specs.Puzzle.{cellsWords};
-ghost use Rattle.grids.specs.Mask.{cellColors, cellsMask};
+ghost use Rattle.grids.specs.Mask.{Colored, cellColors, cellsMask};
 
 // Bit 0 and the colours of the cells.
 fn cell_colors(grid: &[u8]) -> u32
+    requires { ⌜ Colored (now grid) ⌝ }
     ensures { λ r. ⌜ r ≡ cellColors (now (grid .entry)) ⌝ }
 {
     let mut mask = 1;
     for i in 0..grid.len() {
-        mask = with(mask, grid[i] as u32);
+        mask = set(mask, grid[i] as u32);
     }
     mask
 }
 
 // A blank grid has colour 1.
 pub fn cells_mask(grid: &[u8]) -> u32
+    requires { ⌜ Colored (now grid) ⌝ }
     ensures { λ r. ⌜ r ≡ cellsMask (now (grid .entry)) ⌝ }
 {
     let mask = cell_colors(grid);

@@ -1,7 +1,7 @@
 // Reading a grid into puzzle words.
 use crate::clues::count_clues;
+use crate::clues::count_columns;
 use crate::clues::put_clues;
-use crate::columns::put_columns;
 use crate::masks::cells_mask;
 use crate::masks::put_masks;
 use crate::size::check_size;
@@ -14,9 +14,9 @@ ghost use lib.ListN.{length};
 ghost use Rattle.lists.specs.Wrote.{Wrote};
 ghost use Rattle.refusals.specs.Told.{told};
 ghost use Rattle.refusals.specs.Outcome.{Answers};
-ghost use Rattle.refusals.specs.Verdict.{accepted};
 ghost use Rattle.grids.specs.Grid.{gridChecks, gridWords};
-ghost use Rattle.grids.specs.Sized.{Turned};
+ghost use Rattle.grids.specs.Mask.{Colored};
+ghost use Rattle.grids.specs.Sized.{Sized};
 
 // The size, then the bytes.
 fn check_grid(width: usize, height: usize, grid: &[u8]) -> Answer
@@ -30,33 +30,21 @@ fn check_grid(width: usize, height: usize, grid: &[u8]) -> Answer
 }
 
 // How many words the puzzle takes.
-fn count_grid(width: usize, height: usize, grid: &[u8], columns: &[u8]) -> usize
-    requires { ⌜ Turned width height (now grid) (now columns) ⌝ }
+fn count_grid(width: usize, height: usize, grid: &[u8]) -> usize
+    requires { ⌜ Sized width height (now grid) ⌝ }
     ensures { λ r. ⌜ r ≡ length (gridWords width height (now (grid .entry))) ⌝ }
 {
-    count_clues(width, height, columns) + count_clues(height, width, grid) + 1 + grid.len()
+    count_columns(width, height, grid) + count_clues(height, width, grid) + 1 + grid.len()
 }
 
 // Writes the columns, the rows and the cells.
-fn put_grid(width: usize, height: usize, grid: &[u8], columns: &[u8], out: &mut [u32]) -> usize
-    requires { ⌜ Turned width height (now grid) (now columns) × (length (gridWords width height (now grid)) ≤ length (now out)) ⌝ }
+fn put_grid(width: usize, height: usize, grid: &[u8], out: &mut [u32]) -> usize
+    requires { ⌜ Sized width height (now grid) × Colored (now grid) × (length (gridWords width height (now grid)) ≤ length (now out)) ⌝ }
     ensures { λ r. ⌜ Wrote (gridWords width height (now (grid .entry))) (now (out .entry)) 0 (now (out .exit)) r ⌝ }
 {
-    let rows = put_clues(width, height, columns, out, 0);
-    let cells = put_clues(height, width, grid, out, rows);
+    let rows = put_clues(width, 1, width, height, grid, out, 0);
+    let cells = put_clues(height, width, 1, width, grid, out, rows);
     put_masks(cells_mask(grid), grid.len(), out, cells)
-}
-
-// The words, where there is room.
-fn write_grid(width: usize, height: usize, grid: &[u8], columns: &[u8], out: &mut [u32]) -> Answer
-    requires { ⌜ Turned width height (now grid) (now columns) ⌝ }
-    ensures { λ r. ⌜ Answers (accepted 0) (gridWords width height (now (grid .entry))) (now (out .entry)) r (now (out .exit)) ⌝ }
-{
-    let need = count_grid(width, height, grid, columns);
-    if out.len() < need {
-        return Answer::Refused(Refusal::OutputTooShort(need));
-    }
-    Answer::Accepted(put_grid(width, height, grid, columns, out))
 }
 
 // The puzzle that a grid solves, with all masks open.
@@ -67,7 +55,9 @@ pub fn read_grid(width: usize, height: usize, grid: &[u8], out: &mut [u32]) -> A
     let Answer::Accepted(_) = checked else {
         return checked;
     };
-    let mut columns = [0u8; 4096];
-    put_columns(width, height, grid, &mut columns);
-    write_grid(width, height, grid, &columns, out)
+    let need = count_grid(width, height, grid);
+    if out.len() < need {
+        return Answer::Refused(Refusal::OutputTooShort(need));
+    }
+    Answer::Accepted(put_grid(width, height, grid, out))
 }

@@ -1,9 +1,10 @@
 -- What the checks of a clue and of a line give, by the way that they go; and what holds of a clue that they accept.
-use mathlib.Core.Path.{_≡_, refl}
+use mathlib.Core.Path.{_≡_, refl, sym}
 use mathlib.Core.Bool.{true, false}
 use mathlib.Core.List.{List, [], _∷_}
 use Prim.Native.Nat.{ℕ, suc, _+_, _/_, _%_, _≤_, _<_}
 use native.Mathlib.Omega.{arith}
+use native.Mathlib.Decide.{ℕ-discrete}
 use lib.ListN.{length, getD}
 use lib.Dec.{eqb, ltb}
 use borrow.Author.Tests.{eq-eqb, ne-eqb, lt-ltb, le-ltb, ltb-false}
@@ -14,7 +15,7 @@ use Rattle.refusals.specs.declared.Refusal.{Refusal}
 use Rattle.refusals.specs.declared.Answer.{Answer}
 use Rattle.refusals.specs.declared.Answer.the-variants.{Refused}
 use Rattle.refusals.proofs.Answering.{handed-up, refuse-accepted, then-accepted}
-use Rattle.refusals.proofs.Offending.{none-off}
+use Rattle.refusals.proofs.Offending.{none-off, off-none}
 use Rattle.lines.specs.Clue.{Block, words, blocks, gap, minSpace}
 use Rattle.lines.specs.Arrangement.{Proper, blockAt}
 use Rattle.lines.specs.Calls.{offSize, blockChecks, clueChecks, byteChecks, lineChecks}
@@ -105,3 +106,35 @@ module _ (line : List ℕ) where
 -- every byte of an accepted line is a colour or blank
 pub bytes-ok : (line : List ℕ) {n : ℕ} → accepted n ≡ byteChecks line → (i : ℕ) → i < length line → getD line i 0 ≤ 31
 bytes-ok line e i h = ltb-false 31 (getD line i 0) (none-off 0 (ltb 31) 18 0 line e i h)
+
+-- ---- the bytes that a walk has passed, and one that none of them exceeds
+
+pub record Topped (line : List ℕ) (most i : ℕ) : Type 0 where
+  pub within : i ≤ length line
+  pub below : (k : ℕ) → k < i → getD line k 0 ≤ most
+
+pub topped-first : (line : List ℕ) → Topped line 0 0
+topped-first line = record { within = omega arith; below = λ k l. absurd (omega arith) }
+
+module _ {line : List ℕ} {most i : ℕ} (T : Topped line most i) where
+  topped-next : i < length line → {m : ℕ} → most ≤ m → getD line i 0 ≤ m → Topped line m (i + 1)
+  topped-next h {m} a b = record {
+    within = omega arith;
+    below = λ k l. elim (ℕ-discrete k i) [
+      | yes e ↦ rw e b
+      | no e ↦ omega (arith, T .below k (omega arith))
+    ];
+  }
+
+  pub topped-below : i < length line → getD line i 0 ≤ most → Topped line most (i + 1)
+  topped-below h b = topped-next h (omega arith) b
+
+  pub topped-above : i < length line → most < getD line i 0 → Topped line (getD line i 0) (i + 1)
+  topped-above h b = topped-next h (omega arith) (omega arith)
+
+  pub topped-done : length line ≤ i → (k : ℕ) → k < length line → getD line k 0 ≤ most
+  topped-done h k l = T .below k (omega arith)
+
+-- all are colours
+pub bytes-passed : (line : List ℕ) {most : ℕ} → ((k : ℕ) → k < length line → getD line k 0 ≤ most) → most ≤ 31 → accepted 0 ≡ byteChecks line
+bytes-passed line b h = sym (off-none 0 (ltb 31) 18 0 line (λ k l. le-ltb 31 (getD line k 0) (omega (arith, b k l))))

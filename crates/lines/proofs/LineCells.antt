@@ -6,12 +6,15 @@ use Prim.Native.Nat.{ℕ, _+_, _*_, _≤_, _<_}
 use native.Mathlib.Omega.{arith}
 use lib.ListN.{length, drop, getD, length-append, drop-of-length-le}
 use lib.Dec.{eqb}
+use lib.Seq.{ext-getD}
 use borrow.Author.Tests.{eq-eqb, ne-eqb, eqb-true}
 use Rattle.lists.specs.Wrote.{Wrote}
 use Rattle.lists.proofs.Dropping.{drop-one}
+use Rattle.lists.proofs.Eaches.{length-tab, getD-tab}
 use Rattle.lists.proofs.Writing.{Filling, fill-first, fill-as, fill-room, fill-next, fill-done}
 use Rattle.lines.specs.Clue.{Block, words}
 use Rattle.lines.specs.Line.{run, runsFrom, runs}
+use Rattle.lines.specs.Strided.{strided, Strided}
 use Rattle.lines.specs.Calls.{lineWords}
 
 -- ---- a run and its words
@@ -46,7 +49,7 @@ module _ (size c : ℕ) (l : List ℕ) (i : ℕ) where
 
 -- ---- how many words: two for each cell that begins a run, where the cell before the list has colour c
 
-pub begun : ℕ → List ℕ → ℕ
+unfoldable pub begun : ℕ → List ℕ → ℕ
 begun c [] = 0
 begun c (x ∷ l) = cond (eqb x c || eqb x 0) 0 2 + begun x l
 
@@ -69,14 +72,17 @@ runs-words size c (x ∷ l) = go (eqb x c) refl (runs-words (size + 1) c l) (run
     go true e same next = rw (e, eqb-true x c e) (omega (arith, same))
     go false e same next = rw (e, words-append (run size c) (runsFrom 1 x l), length-append) (omega (arith, run-words size c, next))
 
+pub line-begun : (line : List ℕ) → length (lineWords line) ≡ begun 0 line
+unfolding lineWords runs
+line-begun line = runs-words 0 0 line ∙ omega arith
+
 pub record Counting (line : List ℕ) (count c i : ℕ) : Type 0 where
   pub within : i ≤ length line
-  pub few : count ≤ 2 * i
-  pub counted : length (lineWords line) ≡ count + begun c (drop i line)
+  pub few : count ≤ i
+  pub counted : length (lineWords line) ≡ 2 * count + begun c (drop i line)
 
 pub counting-first : (line : List ℕ) → Counting line 0 0 0
-unfolding lineWords runs
-counting-first line = record { within = omega arith; few = omega arith; counted = runs-words 0 0 line }
+counting-first line = record { within = omega arith; few = omega arith; counted = line-begun line ∙ omega arith }
 
 module _ {line : List ℕ} {count c i : ℕ} (C : Counting line count c i) where
   module _ (h : i < length line) where
@@ -84,9 +90,9 @@ module _ {line : List ℕ} {count c i : ℕ} (C : Counting line count c i) where
     unfolding begun
     begun-next = rw (drop-one 0 line i h)
 
-    pub counting-same : getD line i 0 ≡ c → Counting line count c (i + 1)
+    pub counting-same : getD line i 0 ≡ c → Counting line count (getD line i 0) (i + 1)
     counting-same e =
-        let n : begun c (drop i line) ≡ begun c (drop (i + 1) line) = begun-next ∙ rw (e, eq-eqb c c refl) (omega arith) in
+        let b : begun c (drop i line) ≡ 0 + begun (getD line i 0) (drop (i + 1) line) = begun-next ∙ rw (eq-eqb _ _ e) in
         record { within = omega arith; few = omega arith; counted = omega (arith, C .counted) }
 
     module _ (n : getD line i 0 ≡ c → ⊥) where
@@ -95,37 +101,41 @@ module _ {line : List ℕ} {count c i : ℕ} (C : Counting line count c i) where
           let b : begun c (drop i line) ≡ 0 + begun (getD line i 0) (drop (i + 1) line) = begun-next ∙ rw (ne-eqb _ _ n, eq-eqb _ _ e) in
           record { within = omega arith; few = omega arith; counted = omega (arith, C .counted) }
 
-      pub counting-some : (getD line i 0 ≡ 0 → ⊥) → Counting line (count + 2) (getD line i 0) (i + 1)
+      pub counting-some : (getD line i 0 ≡ 0 → ⊥) → Counting line (count + 1) (getD line i 0) (i + 1)
       counting-some e =
           let b : begun c (drop i line) ≡ 2 + begun (getD line i 0) (drop (i + 1) line) = begun-next ∙ rw (ne-eqb _ _ n, ne-eqb _ _ e) in
           record { within = omega arith; few = omega arith; counted = omega (arith, C .counted) }
 
-  pub counting-done : length line ≤ i → count ≡ length (lineWords line)
+  pub counting-done : length line ≤ i → 2 * count ≡ length (lineWords line)
   unfolding begun
   counting-done h = sym (C .counted ∙ rw (drop-of-length-le line h) (omega arith))
 
 -- ---- the loop that writes the runs
 
-pub record Running (line out₀ out : List ℕ) (at size c i : ℕ) : Type 0 where
+pub record Running (line out₀ : List ℕ) (at₀ : ℕ) (out : List ℕ) (at size c i : ℕ) : Type 0 where
   pub within : i ≤ length line
   pub small : size ≤ i
-  pub fill : Filling (lineWords line) out₀ 0 (words (runsFrom size c (drop i line))) out at
+  pub fill : Filling (lineWords line) out₀ at₀ (words (runsFrom size c (drop i line))) out at
 
-pub running-first : (line out : List ℕ) → length (lineWords line) ≤ length out → Running line out out 0 0 0 0
+pub running-first : (line out : List ℕ) (at : ℕ) → at + length (lineWords line) ≤ length out → Running line out at out at 0 0 0
 unfolding lineWords runs
-running-first line out h = record { within = omega arith; small = omega arith; fill = fill-first _ out 0 (omega arith) refl }
+running-first line out at h = record { within = omega arith; small = omega arith; fill = fill-first _ out at h refl }
 
-module _ {line out₀ out : List ℕ} {at size c i : ℕ} (R : Running line out₀ out at size c i) where
-  module _ (h : i < length line) where
-    pub running-same : getD line i 0 ≡ c → Running line out₀ out at (size + 1) c (i + 1)
-    running-same e = record { within = omega arith; small = omega arith; fill = fill-as (R .fill) (ap words (runs-same size c line i h e)) }
+module _ {line out₀ out : List ℕ} {at₀ at size c i : ℕ} (R : Running line out₀ at₀ out at size c i) where
+  -- the next cell has colour x
+  module _ (h : i < length line) {x : ℕ} (e : getD line i 0 ≡ x) where
+    pub running-same : x ≡ c → Running line out₀ at₀ out at (size + 1) c (i + 1)
+    running-same s = record { within = omega arith; small = omega arith; fill = fill-as (R .fill) (ap words (runs-same size c line i h (e ∙ s))) }
 
-    module _ (n : getD line i 0 ≡ c → ⊥) where
+    module _ (n : x ≡ c → ⊥) where
+      next : words (runsFrom size c (drop i line)) ≡ words (run size c) ++ words (runsFrom 1 x (drop (i + 1) line))
+      next = runs-next size c line i h (λ s. n (sym e ∙ s)) ∙ rw e
+
       pub running-room : at + length (words (run size c)) ≤ length out
-      running-room = fill-room (R .fill) (words (run size c)) (words (runsFrom 1 (getD line i 0) (drop (i + 1) line))) (runs-next size c line i h n)
+      running-room = fill-room (R .fill) (words (run size c)) (words (runsFrom 1 x (drop (i + 1) line))) next
 
-      pub running-next : {at′ : ℕ} {out′ : List ℕ} → Wrote (words (run size c)) out at out′ at′ → Running line out₀ out′ at′ 1 (getD line i 0) (i + 1)
-      running-next w = record { within = omega arith; small = omega arith; fill = fill-next (R .fill) _ _ (runs-next size c line i h n) w }
+      pub running-next : {at′ : ℕ} {out′ : List ℕ} → Wrote (words (run size c)) out at out′ at′ → Running line out₀ at₀ out′ at′ 1 x (i + 1)
+      running-next w = record { within = omega arith; small = omega arith; fill = fill-next (R .fill) _ _ next w }
 
   -- the last run
   module _ (h : length line ≤ i) where
@@ -135,5 +145,31 @@ module _ {line out₀ out : List ℕ} {at size c i : ℕ} (R : Running line out�
     pub running-room-last : at + length (words (run size c)) ≤ length out
     running-room-last = fill-room (R .fill) (words (run size c)) [] last
 
-    pub running-done : {at′ : ℕ} {out′ : List ℕ} → Wrote (words (run size c)) out at out′ at′ → Wrote (lineWords line) out₀ 0 out′ at′
+    pub running-done : {at′ : ℕ} {out′ : List ℕ} → Wrote (words (run size c)) out at out′ at′ → Wrote (lineWords line) out₀ at₀ out′ at′
     running-done w = fill-done (fill-next (R .fill) _ [] last w) refl
+
+-- ---- the cells of a line that lies in a longer list
+
+module _ (from step n : ℕ) (cells : List ℕ) where
+  pub strided-length : length (strided from step n cells) ≡ n
+  unfolding strided
+  strided-length = length-tab n _
+
+  pub strided-in : {i : ℕ} → i < n → i < length (strided from step n cells)
+  strided-in h = omega (arith, strided-length)
+
+  pub strided-out : {i : ℕ} → n ≤ i → length (strided from step n cells) ≤ i
+  strided-out h = omega (arith, strided-length)
+
+  pub strided-cell : (i : ℕ) → i < n → getD (strided from step n cells) i 0 ≡ getD cells (i * step + from) 0
+  unfolding strided
+  strided-cell i h = getD-tab n _ 0 i h
+
+-- a line of its own
+pub strided-whole : (line : List ℕ) → strided 0 1 (length line) line ≡ line
+strided-whole line = ext-getD 0 _ line (strided-length 0 1 (length line) line) (λ i h.
+    strided-cell 0 1 (length line) line i (omega (arith, strided-length 0 1 (length line) line))
+    ∙ ap (λ (k : ℕ). getD line k 0) (omega arith))
+
+pub whole-strided : (line : List ℕ) → length line ≤ 64 → Strided 0 1 (length line) line
+whole-strided line h = record { few = h; small = omega arith; inside = λ t l. omega arith }

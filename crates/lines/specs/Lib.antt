@@ -1,4 +1,6 @@
 pub mod Clue
 pub mod Line
+pub mod Begins
+pub mod Strided
 pub mod Arrangement
 pub mod Calls

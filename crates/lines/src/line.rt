@@ -4,17 +4,33 @@ use lists::put_pair;
 use refusals::Answer;
 use refusals::Refusal;
 ghost use mathlib.Core.Path.{_≡_};
-ghost use Prim.Native.Nat.{_+_, _≤_};
-ghost use lib.ListN.{length};
+ghost use Prim.Native.Nat.{ℕ, _+_, _≤_, _<_};
+ghost use lib.ListN.{length, getD};
 ghost use Rattle.lists.specs.Wrote.{Wrote};
 ghost use Rattle.refusals.specs.Told.{told};
 ghost use Rattle.refusals.specs.Outcome.{Answers};
 ghost use Rattle.lines.specs.Clue.{words};
 ghost use Rattle.lines.specs.Line.{run};
+ghost use Rattle.lines.specs.Strided.{strided, Strided};
 ghost use Rattle.lines.specs.Calls.{byteChecks, lineChecks, lineWords};
 
+// A byte that none exceeds: a walk with no way out, many bytes at a time.
+fn largest(line: &[u8]) -> u8
+    ensures { λ r. ⌜ ((i : ℕ) → i < length (now (line .entry)) → getD (now (line .entry)) i 0 ≤ r) ⌝ }
+{
+    let mut most: u8 = 0;
+    for i in 0..line.len() {
+        let x = line[i];
+        if x <= most {
+            continue;
+        }
+        most = x;
+    }
+    most
+}
+
 // The first byte that is no colour.
-pub fn check_bytes(line: &[u8]) -> Answer
+fn find_byte(line: &[u8]) -> Answer
     ensures { λ r. ⌜ told r ≡ byteChecks (now (line .entry)) ⌝ }
 {
     for i in 0..line.len() {
@@ -25,24 +41,35 @@ pub fn check_bytes(line: &[u8]) -> Answer
     Answer::Accepted(0)
 }
 
-// How many words the runs of a line take: two for each cell that begins one.
+// Looks for the first byte that is no colour only where there is one.
+pub fn check_bytes(line: &[u8]) -> Answer
+    ensures { λ r. ⌜ told r ≡ byteChecks (now (line .entry)) ⌝ }
+{
+    if largest(line) <= 31 {
+        return Answer::Accepted(0);
+    }
+    find_byte(line)
+}
+
+// How many words the runs of a line take: two for each cell that begins one. A byte counts them, so that many cells are taken at a time.
 pub fn count_words(line: &[u8]) -> usize
     requires { ⌜ length (now line) ≤ 64 ⌝ }
     ensures { λ r. ⌜ r ≡ length (lineWords (now (line .entry))) ⌝ }
 {
-    let mut count = 0;
+    let mut count: u8 = 0;
     let mut color: u8 = 0;
     for i in 0..line.len() {
-        let x = line[i];
-        if x == color {
+        let before = color;
+        color = line[i];
+        if color == before {
             continue;
         }
-        if x != 0 {
-            count += 2;
+        if color == 0 {
+            continue;
         }
-        color = x;
+        count += 1;
     }
-    count
+    2 * count as usize
 }
 
 // Writes a run that has ended, where it is not blank.
@@ -56,25 +83,40 @@ fn put_run(size: u32, color: u8, out: &mut [u32], at: usize) -> usize
     put_pair(size, color as u32, out, at)
 }
 
+// Writes the runs of n cells, each a step after the one before.
+pub fn put_runs(
+    cells: &[u8],
+    from: usize,
+    step: usize,
+    n: usize,
+    out: &mut [u32],
+    at: usize,
+) -> usize
+    requires { ⌜ Strided from step n (now cells) × (at + length (lineWords (strided from step n (now cells))) ≤ length (now out)) ⌝ }
+    ensures { λ r. ⌜ Wrote (lineWords (strided from step n (now (cells .entry)))) (now (out .entry)) at (now (out .exit)) r ⌝ }
+{
+    let mut to = at;
+    let mut size: u32 = 0;
+    let mut color: u8 = 0;
+    for i in 0..n {
+        let next = cells[i * step + from];
+        if next == color {
+            size += 1;
+            continue;
+        }
+        to = put_run(size, color, out, to);
+        size = 1;
+        color = next;
+    }
+    put_run(size, color, out, to)
+}
+
 // Writes the runs of a line.
 pub fn from_line(line: &[u8], out: &mut [u32]) -> usize
     requires { ⌜ (length (now line) ≤ 64) × (length (lineWords (now line)) ≤ length (now out)) ⌝ }
     ensures { λ r. ⌜ Wrote (lineWords (now (line .entry))) (now (out .entry)) 0 (now (out .exit)) r ⌝ }
 {
-    let mut at = 0;
-    let mut size: u32 = 0;
-    let mut color: u8 = 0;
-    for i in 0..line.len() {
-        let next = line[i];
-        if next == color {
-            size += 1;
-            continue;
-        }
-        at = put_run(size, color, out, at);
-        size = 1;
-        color = next;
-    }
-    put_run(size, color, out, at)
+    put_runs(line, 0, 1, line.len(), out, 0)
 }
 
 // The maximal runs of one non-blank colour, as size and colour pairs.

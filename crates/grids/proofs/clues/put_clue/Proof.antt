@@ -1,39 +1,32 @@
 use native.Mathlib.Omega.{arith}
 use lib.ListN.{length-set}
-use Rattle.lines.proofs.Coloring.{line-words-length, runs-few}
-use Rattle.grids.proofs.ClueSections.{clue-length, clue-room, clue-kept, clue-wrote}
+use Rattle.lines.specs.Strided.{strided}
+use Rattle.lines.proofs.Coloring.{runs-few}
+use Rattle.lines.proofs.LineCells.{strided-length}
+use Rattle.grids.proofs.ClueSections.{clue-room, clue-count, clue-wrote}
 use borrow.Author.Needs.{needs}
 use Rattle.grids.proofs.clues.put_clue.Statement.{statement}
 use Rattle.grids.proofs.clues.put_clue.Tie as tie
 
-start : tie.Need-part-from-line-start
-start c = let b = c .before .before in omega (arith, clue-length (b .args .line .now), b .pre .1)
-
-kept : tie.Need-same-length
-kept c = let b = c .before .before .before .before .before .before in
-    simp length-set (clue-kept (b .args .line .now) (b .args .out .now) (b .args .at) (b .pre .1) (c .before .before .from-line .ensures))
-
-wrote : tie.Need-returns
-wrote c = clue-wrote _ _ _ (c .before .before .before .before .before .before .pre .1) (c .before .before .from-line .ensures)
+room : tie.Need-put-runs-requires
+room c κs = let b = c .before .before .before in
+    (b .pre .0, clue-room (strided (b .args .from) (b .args .step) (b .args .len) (b .args .cells .now)) (b .args .out .now) (b .args .at) (b .pre .1))
 
 pub put-clue-spec : {M : Type 1} → statement M
 put-clue-spec =
     tie.close
     (tie.spec
-    (λ c. omega (arith, start c))
-    (λ c. search needs)
-    (λ c. omega (arith, start c))
-    start
-    (λ c. search needs)
-    (λ c κs. let b = c .before .before .before in
-    (b .pre .0, clue-room _ (b .args .out .now) (b .args .at) (b .pre .1)))
+    (λ c. let b = c .before .before .before in
+    omega (arith, clue-room (strided (b .args .from) (b .args .step) (b .args .len) (b .args .cells .now)) (b .args .out .now) (b .args .at) (b .pre .1)))
+    room
+    (λ c. omega (arith, c .before .before .put-runs .ensures .next-is))
     (λ c. let b = c .before .before .before .before .before .before in
-    omega (arith, c .before .before .from-line .ensures .next-is, line-words-length (b .args .line .now), runs-few (b .args .line .now), b .pre .0))
+    let a = b .args in
+    let line = strided (a .from) (a .step) (a .len) (a .cells .now) in
+    omega (arith, clue-count line (a .out .now) (a .at) (b .pre .1) (c .before .before .put-runs .ensures), runs-few line, strided-length (a .from) (a .step) (a .len) (a .cells .now), b .pre .0 .few))
     (λ c. search needs)
-    (λ c. let b = c .before .before .before .before in
-    omega (arith, start b, kept c))
-    (λ c. omega (arith, start (c .before .before .before .before)))
     (λ c. let b = c .before .before .before .before .before .before in
-    omega (arith, wrote c .next-is, b .pre .1))
-    kept
-    wrote)
+    let a = b .args in
+    omega (arith, clue-room (strided (a .from) (a .step) (a .len) (a .cells .now)) (a .out .now) (a .at) (b .pre .1), c .before .before .put-runs .kept .1 .1 .1 .1 .0))
+    (λ c. simp length-set (c .before .before .put-runs .kept .1 .1 .1 .1 .0))
+    (λ c. clue-wrote _ _ _ (c .before .before .before .before .before .before .pre .1) (c .before .before .put-runs .ensures)))

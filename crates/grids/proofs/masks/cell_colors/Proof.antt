@@ -25,11 +25,11 @@ cell-colors-spec =
     (λ c. search needs)
     (λ c. search needs)
     (λ c. omega (arith, c .shared-slice-known2 .given (c .before .before .loop .i)))
-    (λ c κs. search needs)
+    (λ c κs. c .before .before .before .before .pre .low (c .before .before .loop .i) (c .before .loop-test .taken))
     (λ c. search needs)
     (λ c. search needs)
     (λ c. let L = c .before .before .before .loop in
     let grid = c .before .before .before .before .before .args .grid .now in
-    (refl, omega arith, L .inv .2 ∙ rw (drop-one 0 grid (L .i) (c .before .before .loop-test .taken), c .with .ensures)))
+    (refl, omega arith, L .inv .2 ∙ rw (drop-one 0 grid (L .i) (c .before .before .loop-test .taken), c .set .ensures)))
     (λ c. let L = c .before .loop in
     sym (L .inv .2 ∙ rw (drop-of-length-le (c .before .before .before .args .grid .now) (c .loop-test .left)))))

@@ -1,5 +1,4 @@
 use mathlib.Core.Path.{_≡_, refl}
-use mathlib.Core.Logic.{⊎-elim}
 use native.Mathlib.Omega.{arith}
 use Prim.Native.Nat.{_-_}
 use lib.ListN.{length}
@@ -27,6 +26,11 @@ count-words-spec =
     (λ c. (search needs, counting-same (c .before .before .before .loop .inv .1) (omega arith) (c .if1 .taken)))
     (λ c. search needs)
     (λ c. search needs)
+    (λ c. (search needs, counting-blank (c .before .before .before .before .loop .inv .1) (omega arith) (c .before .if1 .left) (c .if2 .taken)))
+    (λ c. omega (arith, c .before .before .before .before .loop .inv .1 .few))
     (λ c. search needs)
-    (λ c. (refl, ⊎-elim (λ w. rw (w .1) (counting-some (c .before .before .before .before .loop .inv .1) (omega arith) (c .before .if1 .left) (w .0 .taken))) (λ w. rw (w .1) (counting-blank (c .before .before .before .before .loop .inv .1) (omega arith) (c .before .if1 .left) (w .0 .left))) (c .if2 .came)))
+    (λ c. search needs)
+    (λ c. (search needs, counting-some (c .before .before .before .before .loop .inv .1) (omega arith) (c .before .if1 .left) (c .if2 .left)))
+    (λ c. search needs)
+    (λ c. search needs)
     (λ c. counting-done (c .before .loop .inv .1) (omega arith)))
