@@ -1,4 +1,4 @@
--- The digits of a number: one, or those of its tenth and then the last. They are digit bytes with no leading zero, and say the number.
+-- The digits of a number: one, two, those of its tenth and then the last, or those of its hundredth and then the last two. They are digit bytes with no leading zero, and say the number.
 use mathlib.Core.Path.{_≡_, refl}
 use mathlib.Core.List.{List, [], _∷_, _++_, append-assoc}
 use Prim.Native.Nat.{ℕ, zero, suc, _+_, _-_, _*_, _/_, _%_, _^_, _≤_, _<_}

@@ -1,4 +1,4 @@
--- The writer of digits: one, or those of the tenth and behind them the last.
+-- The writer of digits: one, two at once, or those of the tenth and behind them the last.
 use mathlib.Core.Path.{_≡_, ap}
 use mathlib.Core.List.{List, [], _∷_, _++_}
 use Prim.Native.Nat.{ℕ, _+_, _/_, _%_, _^_, _≤_, _<_}

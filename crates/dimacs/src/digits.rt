@@ -9,13 +9,13 @@ ghost use Rattle.dimacs.specs.Text.{digit, digits};
 pub fn count_digits(n: usize) -> usize
     ensures { λ r. ⌜ r ≡ length (digits n) ⌝ }
 {
-    if n < 10 {
-        return 1;
-    }
-    if n < 100 {
-        return 2;
-    }
     if n < 1_000 {
+        if n < 10 {
+            return 1;
+        }
+        if n < 100 {
+            return 2;
+        }
         return 3;
     }
     if n < 10_000 {
@@ -64,14 +64,14 @@ pub fn put_number(n: usize, out: &mut [u8], at: usize) -> usize
     requires { ⌜ at + length (digits n) ≤ length (now out) ⌝ }
     ensures { λ r. ⌜ Wrote (digits n) (now (out .entry)) at (now (out .exit)) r ⌝ }
 {
+    if 10_000 <= n {
+        let to = put_number(n / 10, out, at);
+        out[to] = digit(n % 10);
+        return to + 1;
+    }
     if n < 100 {
         return put_few(n, out, at);
     }
-    if n < 10_000 {
-        let to = put_few(n / 100, out, at);
-        return put_two(n % 100, out, to);
-    }
-    let to = put_number(n / 10, out, at);
-    out[to] = digit(n % 10);
-    to + 1
+    let to = put_few(n / 100, out, at);
+    put_two(n % 100, out, to)
 }

@@ -29,45 +29,45 @@ put-number-below t =
     and 1 put-number-kinds.ps (falls 1 put-number-kinds.ps _<_ μ-put-number t) put-number.Pre
 
 -- on its own, so that an edit of the order is refused here too
-returns-more : (t : ℕ) → put-number-lts.Need-returns-3 (
-  put-few-reads.Asked,
-  put-few-reads.Learnt,
-  put-two-reads.Asked,
-  put-two-reads.Learnt,
+returns-more : (t : ℕ) → put-number-lts.Need-returns (
   put-number-below t,
   put-number.Post,
   digit-reads.Asked,
   digit-reads.Learnt,
+  put-few-reads.Asked,
+  put-few-reads.Learnt,
+  put-two-reads.Asked,
+  put-two-reads.Learnt,
 ) (put-number-at t) put-number.Post
-returns-more t c = more-wrote (c .before .before .before .before .before .before .before .before .args .n) (omega arith) _ _ (c .before .before .before .before .before .before .before .before .pre .1) (c .before .before .before .put-number .ensures) (c .digit .ensures)
+returns-more t c = more-wrote (c .before .before .before .before .before .before .before .args .n) (omega arith) _ _ (c .before .before .before .before .before .before .before .pre .1) (c .before .before .before .put-number .ensures) (c .digit .ensures)
 
 pub +put-number-spec : {M : Type 1} → statement M
 +put-number-spec = close μ-put-number λ t. put-number-lts.spec (
-  put-few-reads.Asked,
-  put-few-reads.Learnt,
-  put-two-reads.Asked,
-  put-two-reads.Learnt,
   put-number-below t,
   put-number.Post,
   digit-reads.Asked,
   digit-reads.Learnt,
+  put-few-reads.Asked,
+  put-few-reads.Learnt,
+  put-two-reads.Asked,
+  put-two-reads.Learnt,
 )
     (put-number-at t)
     put-number.Post
-    (λ c κs. (c .before .if1 .taken, c .before .before .before .pre .1))
-    (λ c. c .before .before .put-few .kept .1 .0)
-    (λ c. c .before .before .put-few .ensures)
-    (λ c κs. let n = c .before .before .before .before .args .n in
-    (omega arith, first-room n (digits (n / 100)) (pair (n % 100)) (digits-hundred n (c .before .before .if1 .left)) (c .before .before .before .before .args .out .now) _ (c .before .before .before .before .pre .1)))
-    (λ c κs. let n = c .before .before .before .before .before .before .before .before .args .n in
-    (mod-lt n {m = 100} (omega arith), rest-room n (digits (n / 100)) (pair (n % 100)) (digits-hundred n (c .before .before .before .before .before .before .if1 .left)) _ _ (c .before .before .before .before .before .before .before .before .pre .1) (c .before .before .before .put-few2 .ensures)))
-    (λ c. search needs)
-    (λ c. let n = c .before .before .before .before .before .before .before .before .before .before .before .args .n in
-    rest-wrote n (digits (n / 100)) (pair (n % 100)) (digits-hundred n (c .before .before .before .before .before .before .before .before .before .if1 .left)) _ _ (c .before .before .before .before .before .before .before .before .before .before .before .pre .1) (c .before .before .before .before .before .before .put-few2 .ensures) (c .before .before .put-two .ensures))
-    (λ c κs. let n = c .before .before .before .before .args .n in
-    (rw (← (c .before .before .before .before .pre .0)) (tens n .falls (omega arith)), first-room n (digits (n / 10)) (digit (n % 10) ∷ []) (digits-more n (omega arith)) (c .before .before .before .before .args .out .now) _ (c .before .before .before .before .pre .1)))
+    (λ c κs. let n = c .before .before .before .args .n in
+    (rw (← (c .before .before .before .pre .0)) (tens n .falls (omega arith)), first-room n (digits (n / 10)) (digit (n % 10) ∷ []) (digits-more n (omega arith)) (c .before .before .before .args .out .now) _ (c .before .before .before .pre .1)))
     (λ c κs. search needs)
-    (λ c. last-room (c .before .before .before .before .before .before .before .before .args .n) (omega arith) _ _ (c .before .before .before .before .before .before .before .before .pre .1) (c .before .before .before .put-number .ensures))
-    (λ c. omega (arith, last-room (c .before .before .before .before .before .before .before .before .args .n) (omega arith) _ _ (c .before .before .before .before .before .before .before .before .pre .1) (c .before .before .before .put-number .ensures)))
+    (λ c. last-room (c .before .before .before .before .before .before .before .args .n) (omega arith) _ _ (c .before .before .before .before .before .before .before .pre .1) (c .before .before .before .put-number .ensures))
+    (λ c. omega (arith, last-room (c .before .before .before .before .before .before .before .args .n) (omega arith) _ _ (c .before .before .before .before .before .before .before .pre .1) (c .before .before .before .put-number .ensures)))
     (λ c. search needs)
     (returns-more t)
+    (λ c κs. (c .before .if2 .taken, c .before .before .before .before .pre .1))
+    (λ c. search needs)
+    (λ c. c .before .before .put-few .ensures)
+    (λ c κs. let n = c .before .before .before .before .args .n in
+    (omega arith, first-room n (digits (n / 100)) (pair (n % 100)) (digits-hundred n (c .before .if2 .left)) (c .before .before .before .before .args .out .now) _ (c .before .before .before .before .pre .1)))
+    (λ c κs. let n = c .before .before .before .before .before .before .before .before .args .n in
+    (mod-lt n {m = 100} (omega arith), rest-room n (digits (n / 100)) (pair (n % 100)) (digits-hundred n (c .before .before .before .before .before .if2 .left)) _ _ (c .before .before .before .before .before .before .before .before .pre .1) (c .before .before .before .put-few2 .ensures)))
+    (λ c. search needs)
+    (λ c. let n = c .before .before .before .before .before .before .before .before .before .before .before .args .n in
+    rest-wrote n (digits (n / 100)) (pair (n % 100)) (digits-hundred n (c .before .before .before .before .before .before .before .before .if2 .left)) _ _ (c .before .before .before .before .before .before .before .before .before .before .before .pre .1) (c .before .before .before .before .before .before .put-few2 .ensures) (c .before .before .put-two .ensures))

@@ -1,6 +1,5 @@
 use lib.ListN.{length-set}
 use native.Mathlib.Omega.{arith}
-use Rattle.dimacs.proofs.NumberText.{tens}
 use Rattle.dimacs.proofs.PutDigits.{pair-wrote}
 use borrow.Author.Needs.{needs}
 use Rattle.dimacs.proofs.digits.put_two.Statement.{statement}
