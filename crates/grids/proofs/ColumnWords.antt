@@ -1,18 +1,18 @@
 -- The words of the columns, counted row by row: each row gives two for each of its cells that begins a run of its column.
 use mathlib.Core.Path.{_≡_, refl, sym, ap, _∙_}
 use mathlib.Core.List.{List}
-use Prim.Native.Nat.{ℕ, zero, suc, _+_, _-_, _*_, _≤_, _<_}
+use Prim.Native.Nat.{ℕ, suc, _+_, _-_, _*_, _≤_, _<_}
 use native.Mathlib.Omega.{arith}
 use native.Mathlib.Numerals.{add-one}
 use native.Mathlib.Nat.{mul-one, one-mul, mul-zero, zero-mul, suc-mul, mul-comm, mul-le-mul-right}
 use lib.ListN.{length, take, drop, getD, replicate, getD-replicate}
-use Rattle.lists.specs.Each.{each, tab, sum}
+use Rattle.lists.specs.Each.{each, sum}
 use Rattle.lists.proofs.Parts.{part-within, part-tab, each-most}
 use Rattle.lists.proofs.Sums.{sum-same, sum-both, sum-constant, sum-times, sum-most, length-each}
 use Rattle.lines.specs.Begins.{begins}
 use Rattle.lines.specs.Calls.{lineWords}
 use Rattle.lines.specs.Line.{runs}
-use Rattle.lines.proofs.Growing.{before, words-none, words-grow, begins-same, begins-blank, begins-some, begins-most}
+use Rattle.lines.proofs.Growing.{before, words-none, words-grow, begins-most}
 use Rattle.puzzles.specs.Puzzle.{clueWords, linesWords}
 use Rattle.grids.specs.Grid.{row, column, columnClues}
 use Rattle.grids.specs.Sized.{Sized}
@@ -35,20 +35,9 @@ unfolding sum
 finding-first row above = record { within = omega arith; few = omega arith; counted = refl }
 
 module _ {row above : List ℕ} {count i : ℕ} (F : Finding row above count i) (h : i < length row) where
-  finding-none : begins (getD above i 0) (getD row i 0) ≡ 0 → Finding row above count (i + 1)
+  pub finding-next : {k : ℕ} → k ≡ begins (getD above i 0) (getD row i 0) → k ≤ 1 → Finding row above (count + k) (i + 1)
   unfolding sum
-  finding-none e = record { within = omega arith; few = omega (arith, F .few); counted = rw (add-one i) (omega (arith, F .counted, e)) }
-
-  pub finding-same : getD row i 0 ≡ getD above i 0 → Finding row above count (i + 1)
-  finding-same e = finding-none (begins-same _ _ e)
-
-  module _ (n : getD row i 0 ≡ getD above i 0 → ⊥) where
-    pub finding-blank : getD row i 0 ≡ 0 → Finding row above count (i + 1)
-    finding-blank e = finding-none (begins-blank _ _ n e)
-
-    pub finding-some : (getD row i 0 ≡ 0 → ⊥) → Finding row above (count + 1) (i + 1)
-    unfolding sum
-    finding-some e = record { within = omega arith; few = omega (arith, F .few); counted = rw (add-one i) (omega (arith, F .counted, begins-some _ _ n e)) }
+  finding-next e l = record { within = omega arith; few = omega (arith, F .few); counted = rw (add-one i) (omega (arith, F .counted, e)) }
 
 pub finding-done : {row above : List ℕ} {count i : ℕ} → Finding row above count i → length row ≤ i → count ≡ begunIn row above (length row)
 finding-done {row} {above} F h =

@@ -1,6 +1,7 @@
 // The clues of a grid's lines.
 use lines::line::count_words;
 use lines::line::put_runs;
+use lines::line::run_begins;
 ghost use mathlib.Core.Path.{_≡_};
 ghost use Prim.Native.Nat.{_+_, _≤_};
 ghost use lib.ListN.{length, getD};
@@ -33,14 +34,7 @@ fn count_begun(row: &[u8], above: &[u8]) -> usize
 {
     let mut count: u8 = 0;
     for x in 0..row.len() {
-        let color = row[x];
-        if color == above[x] {
-            continue;
-        }
-        if color == 0 {
-            continue;
-        }
-        count += 1;
+        count += run_begins(above[x], row[x]);
     }
     count as usize
 }

@@ -10,7 +10,7 @@ use borrow.Author.Tests.{eq-eqb, ne-eqb}
 use Rattle.lists.specs.Each.{each, tab}
 use Rattle.lines.specs.Begins.{begins}
 use Rattle.lines.specs.Calls.{lineWords}
-use Rattle.lines.proofs.LineCells.{begun, line-begun}
+use Rattle.lines.proofs.LineCells.{begun, line-begun, two-begins}
 
 -- ---- a cell of colour x after one of colour c
 
@@ -37,12 +37,8 @@ module _ (c x : ℕ) where
       go false = omega arith
 
   begun-one : begun c (x ∷ []) ≡ 2 * begins c x
-  unfolding begun begins
-  begun-one = go (eqb x c || eqb x 0)
-    where
-      go : (b : Bool) → cond b 0 2 + 0 ≡ 2 * cond b 0 1
-      go true = refl
-      go false = refl
+  unfolding begun
+  begun-one = omega (arith, two-begins c x)
 
 -- ---- a line and what comes after it
 

@@ -13,6 +13,7 @@ use Rattle.lists.proofs.Dropping.{drop-one}
 use Rattle.lists.proofs.Eaches.{length-tab, getD-tab}
 use Rattle.lists.proofs.Writing.{Filling, fill-first, fill-as, fill-room, fill-next, fill-done}
 use Rattle.lines.specs.Clue.{Block, words}
+use Rattle.lines.specs.Begins.{begins}
 use Rattle.lines.specs.Line.{run, runsFrom, runs}
 use Rattle.lines.specs.Strided.{strided, Strided}
 use Rattle.lines.specs.Calls.{lineWords}
@@ -76,6 +77,14 @@ pub line-begun : (line : List ℕ) → length (lineWords line) ≡ begun 0 line
 unfolding lineWords runs
 line-begun line = runs-words 0 0 line ∙ omega arith
 
+pub two-begins : (c x : ℕ) → cond (eqb x c || eqb x 0) 0 2 ≡ 2 * begins c x
+unfolding begins
+two-begins c x = go (eqb x c || eqb x 0)
+  where
+    go : (b : Bool) → cond b 0 2 ≡ 2 * cond b 0 1
+    go true = refl
+    go false = refl
+
 pub record Counting (line : List ℕ) (count c i : ℕ) : Type 0 where
   pub within : i ≤ length line
   pub few : count ≤ i
@@ -90,21 +99,8 @@ module _ {line : List ℕ} {count c i : ℕ} (C : Counting line count c i) where
     unfolding begun
     begun-next = rw (drop-one 0 line i h)
 
-    pub counting-same : getD line i 0 ≡ c → Counting line count (getD line i 0) (i + 1)
-    counting-same e =
-        let b : begun c (drop i line) ≡ 0 + begun (getD line i 0) (drop (i + 1) line) = begun-next ∙ rw (eq-eqb _ _ e) in
-        record { within = omega arith; few = omega arith; counted = omega (arith, C .counted) }
-
-    module _ (n : getD line i 0 ≡ c → ⊥) where
-      pub counting-blank : getD line i 0 ≡ 0 → Counting line count (getD line i 0) (i + 1)
-      counting-blank e =
-          let b : begun c (drop i line) ≡ 0 + begun (getD line i 0) (drop (i + 1) line) = begun-next ∙ rw (ne-eqb _ _ n, eq-eqb _ _ e) in
-          record { within = omega arith; few = omega arith; counted = omega (arith, C .counted) }
-
-      pub counting-some : (getD line i 0 ≡ 0 → ⊥) → Counting line (count + 1) (getD line i 0) (i + 1)
-      counting-some e =
-          let b : begun c (drop i line) ≡ 2 + begun (getD line i 0) (drop (i + 1) line) = begun-next ∙ rw (ne-eqb _ _ n, ne-eqb _ _ e) in
-          record { within = omega arith; few = omega arith; counted = omega (arith, C .counted) }
+    pub counting-next : {k : ℕ} → k ≡ begins c (getD line i 0) → k ≤ 1 → Counting line (count + k) (getD line i 0) (i + 1)
+    counting-next e l = record { within = omega arith; few = omega (arith, C .few); counted = omega (arith, C .counted, begun-next, two-begins c (getD line i 0)) }
 
   pub counting-done : length line ≤ i → 2 * count ≡ length (lineWords line)
   unfolding begun

@@ -10,6 +10,7 @@ ghost use Rattle.lists.specs.Wrote.{Wrote};
 ghost use Rattle.refusals.specs.Told.{told};
 ghost use Rattle.refusals.specs.Outcome.{Answers};
 ghost use Rattle.lines.specs.Clue.{words};
+ghost use Rattle.lines.specs.Begins.{begins};
 ghost use Rattle.lines.specs.Line.{run};
 ghost use Rattle.lines.specs.Strided.{strided, Strided};
 ghost use Rattle.lines.specs.Calls.{byteChecks, lineChecks, lineWords};
@@ -51,6 +52,19 @@ pub fn check_bytes(line: &[u8]) -> Answer
     find_byte(line)
 }
 
+// 1 where a cell begins a run after one of the colour before. It is added, so that the loops which count have no branch.
+pub fn run_begins(before: u8, color: u8) -> u8
+    ensures { λ r. ⌜ (r ≡ begins before color) × (r ≤ 1) ⌝ }
+{
+    if color == before {
+        return 0;
+    }
+    if color == 0 {
+        return 0;
+    }
+    1
+}
+
 // How many words the runs of a line take: two for each cell that begins one. A byte counts them, so that many cells are taken at a time.
 pub fn count_words(line: &[u8]) -> usize
     requires { ⌜ length (now line) ≤ 64 ⌝ }
@@ -61,13 +75,7 @@ pub fn count_words(line: &[u8]) -> usize
     for i in 0..line.len() {
         let before = color;
         color = line[i];
-        if color == before {
-            continue;
-        }
-        if color == 0 {
-            continue;
-        }
-        count += 1;
+        count += run_begins(before, color);
     }
     2 * count as usize
 }

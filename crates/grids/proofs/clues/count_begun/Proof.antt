@@ -2,7 +2,7 @@ use mathlib.Core.Path.{_≡_, refl}
 use native.Mathlib.Omega.{arith}
 use Prim.Native.Nat.{_-_}
 use lib.ListN.{length}
-use Rattle.grids.proofs.ColumnWords.{Finding, finding-first, finding-same, finding-blank, finding-some, finding-done}
+use Rattle.grids.proofs.ColumnWords.{Finding, finding-first, finding-next, finding-done}
 use borrow.Author.Needs.{needs}
 use Rattle.grids.proofs.clues.count_begun.Statement.{statement}
 use Rattle.grids.proofs.clues.count_begun.Tie as tie
@@ -20,17 +20,12 @@ count-begun-spec =
     Inv-loop
     μ-loop
     (λ c. (refl, finding-first _ _))
+    (λ c. omega (arith, c .before .before .before .before .before .pre .1))
     (λ c. search needs)
-    (λ c. omega (arith, c .before .before .before .before .pre .1))
-    (λ c. search needs)
-    (λ c. search needs)
-    (λ c. (search needs, finding-same (c .before .before .before .before .loop .inv .1) (omega arith) (c .if1 .taken)))
-    (λ c. search needs)
-    (λ c. search needs)
-    (λ c. (search needs, finding-blank (c .before .before .before .before .before .loop .inv .1) (omega arith) (c .before .if1 .left) (c .if2 .taken)))
-    (λ c. omega (arith, c .before .before .before .before .before .loop .inv .1 .few))
+    (λ c κs. search needs)
+    (λ c. omega (arith, c .before .before .before .before .loop .inv .1 .few, c .run-begins .ensures .1))
     (λ c. search needs)
     (λ c. search needs)
-    (λ c. (search needs, finding-some (c .before .before .before .before .before .loop .inv .1) (omega arith) (c .before .if1 .left) (c .if2 .left)))
+    (λ c. (search needs, finding-next (c .before .before .before .before .loop .inv .1) (omega arith) (c .run-begins .ensures .0) (c .run-begins .ensures .1)))
     (λ c. search needs)
     (λ c. finding-done (c .before .loop .inv .1) (omega arith)))

@@ -1,7 +1,6 @@
 use mathlib.Core.Path.{_∙_}
 use Rattle.grids.proofs.Cells.{sized-most}
 use Rattle.grids.proofs.GridWords.{rows-laid, columns-laid, columns-room, rows-room, cells-room, grid-wrote}
-use borrow.Author.Needs.{needs}
 use Rattle.grids.proofs.read.put_grid.Statement.{statement}
 use Rattle.grids.proofs.read.put_grid.Tie as tie
 

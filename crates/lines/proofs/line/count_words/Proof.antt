@@ -2,7 +2,7 @@ use mathlib.Core.Path.{_≡_, refl}
 use native.Mathlib.Omega.{arith}
 use Prim.Native.Nat.{_-_}
 use lib.ListN.{length}
-use Rattle.lines.proofs.LineCells.{Counting, counting-first, counting-same, counting-some, counting-blank, counting-done}
+use Rattle.lines.proofs.LineCells.{Counting, counting-first, counting-next, counting-done}
 use borrow.Author.Needs.{needs}
 use Rattle.lines.proofs.line.count_words.Statement.{statement}
 use Rattle.lines.proofs.line.count_words.Tie as tie
@@ -21,16 +21,11 @@ count-words-spec =
     μ-loop
     (λ c. (refl, counting-first _))
     (λ c. search needs)
+    (λ c κs. search needs)
+    (λ c. omega (arith, c .before .before .before .loop .inv .1 .few, c .run-begins .ensures .1))
     (λ c. search needs)
     (λ c. search needs)
-    (λ c. (search needs, counting-same (c .before .before .before .loop .inv .1) (omega arith) (c .if1 .taken)))
-    (λ c. search needs)
-    (λ c. search needs)
-    (λ c. (search needs, counting-blank (c .before .before .before .before .loop .inv .1) (omega arith) (c .before .if1 .left) (c .if2 .taken)))
-    (λ c. omega (arith, c .before .before .before .before .loop .inv .1 .few))
-    (λ c. search needs)
-    (λ c. search needs)
-    (λ c. (search needs, counting-some (c .before .before .before .before .loop .inv .1) (omega arith) (c .before .if1 .left) (c .if2 .left)))
+    (λ c. (search needs, counting-next (c .before .before .before .loop .inv .1) (omega arith) (c .run-begins .ensures .0) (c .run-begins .ensures .1)))
     (λ c. search needs)
     (λ c. search needs)
     (λ c. counting-done (c .before .loop .inv .1) (omega arith)))
