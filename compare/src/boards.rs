@@ -129,6 +129,18 @@ pub fn puzzle(random: &mut Random, sizes: Sizes) -> Puzzle {
     puzzle
 }
 
+/// The puzzle of a picture with masks that solve and exclude; now and then one that the picture breaks.
+pub fn masked(random: &mut Random, puzzle: &Puzzle, grid: &[u8]) -> Puzzle {
+    let known = [vec![0], puzzle.colors()].concat();
+    let mut masks = vec![];
+    for &cell in grid {
+        let other = 1 << random.pick(&known);
+        let obeyed = random.pick(&[puzzle.masks[0], 1 << cell, 1 << cell | other]);
+        masks.push(if random.one_in(100) { other } else { obeyed });
+    }
+    Puzzle { masks, ..puzzle.clone() }
+}
+
 fn claim(random: &mut Random, puzzle: &Puzzle, colors: &[u32]) -> Claim {
     let off = usize::from(random.one_in(300));
     (random.below(puzzle.width() + off) as u32, random.below(puzzle.height() + off) as u32, random.pick(colors))

@@ -54,7 +54,7 @@ fn clues(random: &mut Random) {
         clue.push((length as u32, colors[0]));
     }
     let args = [vec![length as i64], wide(&clue_words(&clue))].concat();
-    let or_short = |words: Option<Vec<u32>>| words.map(|words| wide(&words)).ok_or((6, 0));
+    let or_short = |words: Result<Vec<u32>, u32>| words.map(|words| wide(&words)).map_err(|number| (number, 0));
     case(random, "starts", &args, or_short(rust::starts::<ColoredBlock>(length, &clue)));
     case(random, "color_ranges", &args, or_short(rust::color_ranges(length, &clue)));
 }
@@ -111,7 +111,7 @@ fn clauses<B: Kind>(random: &mut Random, puzzle: &Puzzle) {
     case(random, "counts", &words, Ok(counts.iter().map(|&count| count as i64).collect()));
     let probes = boards::probes(random, puzzle);
     let implied = unless_panic(|| probes.iter().flat_map(|(probe, impacts)| encoder.implications(*probe, impacts)).collect::<Clauses>());
-    if let Some(implied) = implied.filter(|_| rust::in_domain::<B>(&probes)) {
+    if let Some(implied) = implied.ok().filter(|_| rust::in_domain::<B>(&probes)) {
         let args = [vec![words.len() as i64], words, wide(&probe_words(&probes))].concat();
         case(random, "probes", &args, Ok(wide(&section_words(&implied))));
     }
@@ -155,7 +155,7 @@ pub fn print(seed: u64) {
     }
     for _ in 0..60 {
         let puzzle = puzzle(&mut random);
-        if puzzle.column_outside() || puzzle.colors().len() > 3 {
+        if puzzle.column_outside().is_some() || puzzle.colors().len() > 3 {
             continue;
         }
         if puzzle.is_binary() {

@@ -106,13 +106,17 @@ fn round(tally: &mut Tally, random: &mut Random, sizes: Sizes) {
 
     let (width, grid) = boards::picture(random, sizes);
     topics::line(tally, &grid[..width]);
+    let bytes: Vec<u8> = grid.iter().map(|_| random.word() as u8).collect();
+    topics::transpose(tally, width, &bytes);
     let read = topics::grid(tally, width, &grid);
     let model = boards::model(&read, width, &grid);
     let mut flipped = model.clone();
     let at = random.below(model.len());
     flipped[at] ^= 1;
+    let models = vec![model, flipped];
     let probes = vec![boards::probes(random, &read)];
-    Case { puzzle: read, probes, models: vec![model, flipped] }.compare(tally);
+    Case { puzzle: boards::masked(random, &read, &grid), probes: vec![], models: models.clone() }.compare(tally);
+    Case { puzzle: read, probes, models }.compare(tally);
 
     let puzzle = boards::puzzle(random, sizes);
     for clue in &puzzle.columns {

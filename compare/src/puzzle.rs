@@ -74,10 +74,10 @@ impl Puzzle {
         self.masks.iter().any(|mask| mask.is_power_of_two() && *mask > 1 && !colors.contains(&mask.trailing_zeros()))
     }
 
-    /// Whether a column has a colour that no row has; 9 is stricter than the Rust.
-    pub fn column_outside(&self) -> bool {
+    /// The first column with a colour that no row has; 9 is stricter than the Rust.
+    pub fn column_outside(&self) -> Option<usize> {
         let colors = self.colors();
-        self.columns.iter().flatten().any(|(_, color)| !colors.contains(color))
+        self.columns.iter().position(|column| column.iter().any(|(_, color)| !colors.contains(color)))
     }
 
     /// Binary puzzles of the comparison domain.

@@ -14,7 +14,7 @@ use nonogrid::{
 use std::{
     cell::Cell,
     collections::HashMap,
-    panic::{catch_unwind, set_hook, take_hook, AssertUnwindSafe},
+    panic::{catch_unwind, resume_unwind, set_hook, take_hook, AssertUnwindSafe},
     rc::Rc,
 };
 use varisat::{solver, Lit};
@@ -25,12 +25,27 @@ thread_local! {
     static EXPECTED: Cell<bool> = const { Cell::new(false) };
 }
 
-/// What the Rust answers, or `None` where it panics.
-pub fn unless_panic<T>(call: impl FnOnce() -> T) -> Option<T> {
+/// What the Rust says where it panics, and the refusal that stands for it.
+const PANICS: [(&str, u32); 4] = [
+    ("assertion failed: line_length >= min_space", 6),
+    ("Solved color should be present", 10),
+    ("Cannot get vars for point", 17),
+    ("Not found probe var", 19),
+];
+
+/// What the Rust answers, or the number of the refusal that stands for its panic. Any other panic goes on.
+pub fn unless_panic<T>(call: impl FnOnce() -> T) -> Result<T, u32> {
     let before = EXPECTED.replace(true);
-    let answer = catch_unwind(AssertUnwindSafe(call)).ok();
+    let answer = catch_unwind(AssertUnwindSafe(call));
     EXPECTED.set(before);
-    answer
+    answer.map_err(|panic| {
+        let said = panic.downcast_ref::<String>().map(String::as_str).or(panic.downcast_ref::<&str>().copied()).unwrap_or("");
+        let Some((_, number)) = PANICS.iter().find(|(text, _)| *text == said) else {
+            eprintln!("a panic that no refusal stands for: {said}");
+            resume_unwind(panic)
+        };
+        *number
+    })
 }
 
 /// Keeps quiet about the panics that are counted.
@@ -96,17 +111,17 @@ impl Kind for ColoredBlock {
 }
 
 /// A clue's positions, least space and starts.
-pub fn starts<B: Kind>(length: usize, clue: &[(u32, u32)]) -> Option<Vec<u32>> {
+pub fn starts<B: Kind>(length: usize, clue: &[(u32, u32)]) -> Result<Vec<u32>, u32> {
     let clue = B::clue(clue);
     let positions = unless_panic(|| clue.positions_number(length))?;
-    Some([positions, clue.door_min_space()].into_iter().chain(clue.block_starts()).map(|n| n as u32).collect())
+    Ok([positions, clue.door_min_space()].into_iter().chain(clue.block_starts()).map(|n| n as u32).collect())
 }
 
 /// A colour clue's ranges, for the colours 1 to 31.
-pub fn color_ranges(length: usize, clue: &[(u32, u32)]) -> Option<Vec<u32>> {
+pub fn color_ranges(length: usize, clue: &[(u32, u32)]) -> Result<Vec<u32>, u32> {
     let ranges = unless_panic(|| ColoredBlock::clue(clue).color_ranges(length))?;
     let range = |color| ranges.get(&ColoredBlock::id(color)).map_or([0, 0], |range| [range.start as u32, range.end as u32]);
-    Some((1..32).flat_map(range).collect())
+    Ok((1..32).flat_map(range).collect())
 }
 
 fn ids<B: Kind>(line: &[u8]) -> Vec<ColorId> {
@@ -141,7 +156,7 @@ pub fn puzzle(width: usize, grid: &[u8]) -> Puzzle {
 pub fn too_short<B: Kind>(puzzle: &Puzzle) -> Option<usize> {
     let columns = puzzle.columns.iter().map(|clue| (clue, puzzle.height()));
     let rows = puzzle.rows.iter().map(|clue| (clue, puzzle.width()));
-    columns.chain(rows).position(|(clue, length)| starts::<B>(length, clue).is_none())
+    columns.chain(rows).position(|(clue, length)| starts::<B>(length, clue).is_err())
 }
 
 /// The first clause that a model makes false.
@@ -155,12 +170,23 @@ pub fn transpose(width: usize, grid: &[u8]) -> Vec<u8> {
     nonogrid::utils::transpose(&rows).expect("rows of one length").concat()
 }
 
+fn generator<B: Kind>(puzzle: &Puzzle) -> ClauseGenerator<B> {
+    let clues = |lines: &[Vec<(u32, u32)>]| lines.iter().map(|clue| Rc::new(B::clue(clue))).collect::<Vec<_>>();
+    let cells = puzzle.masks.iter().map(|&mask| B::cell(mask)).collect();
+    ClauseGenerator::with_clues(&clues(&puzzle.columns), &clues(&puzzle.rows), cells)
+}
+
+/// How many clauses the Rust makes of a puzzle.
+pub fn clause_count<B: Kind>(puzzle: &Puzzle) -> Result<usize, u32> {
+    unless_panic(|| generator::<B>(puzzle).door_clauses().count())
+}
+
 /// Whether the Rust panics at the mask of this cell and at none before.
 pub fn stops_at<B: Kind>(puzzle: &Puzzle, cell: usize) -> bool {
     let panics = |open: usize| {
         let mut puzzle = puzzle.clone();
         puzzle.masks[open..].fill(u32::MAX);
-        unless_panic(|| Encoder::<B>::new(&puzzle).clauses()).is_none()
+        clause_count::<B>(&puzzle) == Err(10)
     };
     !panics(cell) && panics(cell + 1)
 }
@@ -188,9 +214,7 @@ pub struct Encoder<'a, B: Kind> {
 impl<'a, B: Kind> Encoder<'a, B> {
     /// Panics where the Rust does.
     pub fn new(puzzle: &'a Puzzle) -> Self {
-        let clues = |lines: &[Vec<(u32, u32)>]| lines.iter().map(|clue| Rc::new(B::clue(clue))).collect::<Vec<_>>();
-        let cells = puzzle.masks.iter().map(|&mask| B::cell(mask)).collect();
-        let generator = ClauseGenerator::with_clues(&clues(&puzzle.columns), &clues(&puzzle.rows), cells);
+        let generator = generator::<B>(puzzle);
         let block_vars = generator.door_clues_vars_count();
         let mut this = Self { puzzle, generator, block_vars, renamed: (1..=block_vars as i32).collect() };
         this.rename_cells();

@@ -43,7 +43,21 @@ impl Tally {
         self.0.entry(name.to_string()).or_default()
     }
 
-    /// Prints the counts; whether there was no difference.
+    /// The topics that every run must reach and this one did not.
+    fn missing(&self) -> Vec<String> {
+        let families = (1..=10).flat_map(|family| ["binary", "colour"].map(|kind| format!("family {family:2}, {kind}")));
+        let kinds = ["probes", "pictures", "blocking", "starts", "read_line", "read_grid"];
+        let by_kind = kinds.iter().flat_map(|topic| ["binary", "colour"].map(|kind| format!("{topic}, {kind}")));
+        let refusals = ["clauses, binary: 6", "clauses, colour: 6", "clauses, colour: 9", "clauses, colour: 10", "clauses: 12"];
+        let others = ["models, binary: 15", "models, colour: 15", "probes, colour: 17, a panic", "probes, colour: 19, a panic"];
+        let alone = ["counts", "clause words", "color_ranges, colour", "transpose", "two_powers", "from_two_powers"];
+        let named = refusals.iter().chain(&others).chain(&alone).map(|topic| topic.to_string());
+        // A binary puzzle has one colour, so its family 9 has no clause.
+        let reached = |topic: &String| self.0.get(topic).is_some_and(|found| found.numbers > 0 || topic == "family  9, binary");
+        families.chain(by_kind).chain(named).filter(|topic| !reached(topic)).collect()
+    }
+
+    /// Prints the counts; whether there was no difference, and every topic was reached.
     pub fn summary(&self) -> bool {
         println!("{:<44} {:>12} {:>16} {:>10}", "compared", "cases", "numbers", "different");
         for (name, topic) in &self.0 {
@@ -54,6 +68,8 @@ impl Tally {
                 println!("{name}: {smallest}");
             }
         }
-        self.0.values().all(|topic| topic.differences == 0)
+        let missing = self.missing();
+        missing.iter().for_each(|topic| println!("never compared: {topic}"));
+        missing.is_empty() && self.0.values().all(|topic| topic.differences == 0)
     }
 }

@@ -7,7 +7,6 @@ use crate::{
 };
 use haafgrim::{lent, Refusal};
 use nonogrid::block::{binary::BinaryBlock, multicolor::ColoredBlock};
-use std::fmt::Debug;
 
 /// The library's answer in a buffer of a length that is always enough.
 fn within<T: Default + Clone>(room: usize, entry: impl Fn(&mut [T]) -> Result<usize, Refusal>) -> Result<Vec<T>, Refusal> {
@@ -15,18 +14,11 @@ fn within<T: Default + Clone>(room: usize, entry: impl Fn(&mut [T]) -> Result<us
     entry(&mut out).map(|count| out[..count].to_vec())
 }
 
-/// An answer whose refusals stand for panics of the Rust.
-fn answered<T: PartialEq + Debug>(
-    tally: &mut Tally,
-    topic: &str,
-    input: &[u32],
-    ours: Result<Vec<T>, Refusal>,
-    panic: u32,
-    rust: Option<Vec<T>>,
-) {
+/// An answer about a line, whose refusals stand for panics of the Rust.
+fn answered(tally: &mut Tally, topic: &str, input: &[u32], ours: Result<Vec<u32>, Refusal>, rust: Result<Vec<u32>, u32>) {
     match (ours, rust) {
-        (Ok(ours), Some(rust)) => tally.equal(topic, input, &ours, &rust),
-        (Err(refusal), None) if refusal.number == panic => tally.count(&format!("{topic}: {panic}, a panic"), 1),
+        (Ok(ours), Ok(rust)) => tally.equal(topic, input, &ours, &rust),
+        (Err(Refusal { number, place: 0 }), Err(panic)) if number == panic => tally.count(&format!("{topic}: {number}, a panic"), 1),
         (ours, rust) => tally.differs(topic, input, &format!("{ours:?}, the Rust {rust:?}")),
     }
 }
@@ -46,12 +38,12 @@ pub fn clue(tally: &mut Tally, length: usize, clue: &[(u32, u32)]) {
     let words = clue_words(clue);
     let input = [&[length as u32], words.as_slice()].concat();
     let starts = || within(66, |out| lent::starts(length, &words, out));
-    answered(tally, "starts, colour", &input, starts(), 6, rust::starts::<ColoredBlock>(length, clue));
+    answered(tally, "starts, colour", &input, starts(), rust::starts::<ColoredBlock>(length, clue));
     if clue.iter().all(|&(_, color)| color == 1) {
-        answered(tally, "starts, binary", &input, starts(), 6, rust::starts::<BinaryBlock>(length, clue));
+        answered(tally, "starts, binary", &input, starts(), rust::starts::<BinaryBlock>(length, clue));
     }
     let ranges = within(62, |out| lent::color_ranges(length, &words, out));
-    answered(tally, "color_ranges, colour", &input, ranges, 6, rust::color_ranges(length, clue));
+    answered(tally, "color_ranges, colour", &input, ranges, rust::color_ranges(length, clue));
 }
 
 pub fn line(tally: &mut Tally, line: &[u8]) {
@@ -63,7 +55,7 @@ pub fn line(tally: &mut Tally, line: &[u8]) {
     }
 }
 
-/// The clues of a grid, transposing it, and the puzzle that is read from it. The masks are document 01's.
+/// The clues of a grid, and the puzzle that is read from it. The masks are document 01's.
 pub fn grid(tally: &mut Tally, width: usize, grid: &[u8]) -> Puzzle {
     let input: Vec<u32> = [width as u32].into_iter().chain(grid.iter().map(|&color| color.into())).collect();
     let height = grid.len() / width;
@@ -74,8 +66,14 @@ pub fn grid(tally: &mut Tally, width: usize, grid: &[u8]) -> Puzzle {
         let (columns, rows) = rust::read_grid::<BinaryBlock>(width, grid);
         tally.equal("read_grid, binary", &input, &ours, &Puzzle { columns, rows, ..puzzle.clone() }.words());
     }
-    tally.equal("transpose", &input, &haafgrim::transpose(width, height, grid).expect("a grid"), &rust::transpose(width, grid));
     puzzle
+}
+
+/// A grid of any bytes.
+pub fn transpose(tally: &mut Tally, width: usize, grid: &[u8]) {
+    let input: Vec<u32> = [width as u32].into_iter().chain(grid.iter().map(|&byte| byte.into())).collect();
+    let ours = haafgrim::transpose(width, grid.len() / width, grid).expect("a grid");
+    tally.equal("transpose", &input, &ours, &rust::transpose(width, grid));
 }
 
 /// A puzzle to compare, with probe lists, and models that satisfy it or nearly do.
@@ -97,35 +95,42 @@ impl Case {
         if self.puzzle.is_colored() {
             self.compare_as::<ColoredBlock>(tally);
         }
+        if !self.puzzle.is_binary() && !self.puzzle.is_colored() {
+            tally.count("outside the domain: puzzles, not compared", 0);
+        }
     }
 
     fn compare_as<B: Kind>(&self, tally: &mut Tally) {
         let words = self.puzzle.words();
-        let rust = unless_panic(|| Encoder::<B>::new(&self.puzzle))
-            .and_then(|encoder| unless_panic(|| encoder.clauses()).map(|clauses| (encoder, clauses)));
+        let rust = unless_panic(|| {
+            let encoder = Encoder::<B>::new(&self.puzzle);
+            let clauses = encoder.clauses();
+            (encoder, clauses)
+        });
         match (haafgrim::clauses(&words), rust) {
-            (Ok(ours), Some((encoder, clauses))) => {
+            (Ok(_), Ok(_)) if self.puzzle.column_outside().is_some() => tally.differs("clauses", &words, "accepted for 9"),
+            (Ok(ours), Ok((encoder, clauses))) => {
                 let formula = Formula::compared(tally, &words, &ours, encoder, clauses);
                 self.probes.iter().for_each(|probes| formula.probes(tally, probes));
                 self.models.iter().for_each(|model| formula.model(tally, model));
             }
-            (Err(refusal), rust) => self.refused::<B>(tally, &words, refusal, rust.is_none()),
-            (ours, None) => tally.differs("clauses", &words, &format!("{ours:?}, the Rust panics")),
+            (Err(refusal), rust) => self.refused::<B>(tally, &words, refusal, rust.err()),
+            (ours, Err(panic)) => tally.differs("clauses", &words, &format!("{ours:?}, the Rust panics for {panic}")),
         }
     }
 
-    /// 6 and 10 stand for panics; 9 is stricter than the Rust, which panics only where there would be a 10 too.
-    fn refused<B: Kind>(&self, tally: &mut Tally, words: &[u32], refusal: Refusal, panics: bool) {
+    /// 01's order. 6 and 10 stand for panics, at the line and the cell where the Rust has them; 9 is stricter than the Rust, which panics only where a 10 would come too.
+    fn refused<B: Kind>(&self, tally: &mut Tally, words: &[u32], refusal: Refusal, panic: Option<u32>) {
         let topic = format!("clauses, {}: {}", B::NAME, refusal.number);
-        let fine = match refusal.number {
-            6 => panics && rust::too_short::<B>(&self.puzzle) == Some(refusal.place),
-            9 => panics == self.puzzle.solved_outside(),
-            10 => panics && rust::stops_at::<B>(&self.puzzle, refusal.place),
-            _ => false,
+        let is = |number, place| refusal == Refusal { number, place };
+        let fine = match (rust::too_short::<B>(&self.puzzle), self.puzzle.column_outside()) {
+            (Some(line), _) => is(6, line) && panic == Some(6),
+            (None, Some(column)) => is(9, column) && panic == self.puzzle.solved_outside().then_some(10),
+            (None, None) => is(10, refusal.place) && panic == Some(10) && rust::stops_at::<B>(&self.puzzle, refusal.place),
         };
         tally.count(&topic, 1);
         if !fine {
-            tally.differs(&topic, words, &format!("{refusal}, the Rust {}", if panics { "panics" } else { "accepts" }));
+            tally.differs(&topic, words, &format!("{refusal}, the Rust's panic {panic:?}"));
         }
     }
 }
@@ -163,6 +168,7 @@ impl<'a, B: Kind> Formula<'a, B> {
         for (family, (ours, rust)) in (1..).zip(sections(ours).iter().zip(&families)) {
             tally.equal(&format!("family {family:2}, {}", B::NAME), words, ours, rust);
         }
+        tally.equal("clause words", words, ours, &families.iter().flat_map(|family| section_words(family)).collect::<Vec<_>>());
         let formula = Self { words, encoder, told, clauses: families.concat() };
         formula.counts(tally, &families);
         formula
@@ -181,19 +187,19 @@ impl<'a, B: Kind> Formula<'a, B> {
     /// 17 and 19 stand for panics.
     fn probes(&self, tally: &mut Tally, probes: &Probes) {
         if !rust::in_domain::<B>(probes) {
-            return;
+            return tally.count("outside the domain: probes, not compared", 0);
         }
         let probe_words = probe_words(probes);
         let input = [self.words, probe_words.as_slice()].concat();
         let all = || probes.iter().flat_map(|(probe, impacts)| self.encoder.implications(*probe, impacts)).collect::<Clauses>();
         let topic = format!("probes, {}", B::NAME);
         match (haafgrim::probes(self.words, &probe_words), unless_panic(all)) {
-            (Ok(ours), Some(rust)) => {
+            (Ok(ours), Ok(rust)) => {
                 tally.equal(&topic, &input, &ours, &section_words(&rust));
                 let (told, _) = self.encoder.run(probes, &[]);
-                tally.equal("run with probes: clauses told", &input, &[told.len()], &[self.told.len() + rust.len()]);
+                tally.equal("harness: run with probes, clauses told", &input, &[told.len()], &[self.told.len() + rust.len()]);
             }
-            (Err(Refusal { number: number @ (17 | 19), .. }), None) => tally.count(&format!("{topic}: {number}, a panic"), 1),
+            (Err(Refusal { number, .. }), Err(panic)) if number == panic => tally.count(&format!("{topic}: {number}, a panic"), 1),
             (ours, rust) => tally.differs(&topic, &input, &format!("{ours:?}, the Rust {rust:?}")),
         }
     }
@@ -210,7 +216,7 @@ impl<'a, B: Kind> Formula<'a, B> {
         }
         let (told, pictures) = self.encoder.run(&vec![], &[model.to_vec()]);
         let (formula, blocked) = told.split_at(self.told.len());
-        tally.equal("run: clauses told", &input, formula, &self.told);
+        tally.equal("harness: run, clauses told", &input, formula, &self.told);
         tally.equal(&format!("pictures, {}", B::NAME), &input, &picture.unwrap_or_default(), &pictures.concat());
         tally.equal(&format!("blocking, {}", B::NAME), &input, &blocking.unwrap_or_default(), &section_words(blocked)[1..]);
     }
