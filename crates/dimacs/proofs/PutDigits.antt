@@ -45,5 +45,5 @@ module _ (n : ℕ) (h : 10 ≤ n) (out : List ℕ) (at : ℕ) (room : at + lengt
   pub last-room : to < length out₁
   last-room = omega (arith, rest-room n (digits (n / 10)) (digit (n % 10) ∷ []) (digits-more n h) out at room w)
 
-  pub more-wrote : {d : ℕ} → d ≡ digit (n % 10) → Wrote (digits n) out at (set out₁ to d) (to + 1)
-  more-wrote e = rw e (rest-wrote n (digits (n / 10)) (digit (n % 10) ∷ []) (digits-more n h) out at room w (wrote-store out₁ to (digit (n % 10)) last-room))
+  pub more-wrote : {out₂ : List ℕ} {end : ℕ} → Wrote (digit (n % 10) ∷ []) out₁ to out₂ end → Wrote (digits n) out at out₂ end
+  more-wrote v = rest-wrote n (digits (n / 10)) (digit (n % 10) ∷ []) (digits-more n h) out at room w v

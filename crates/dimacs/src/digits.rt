@@ -59,19 +59,38 @@ fn put_few(n: usize, out: &mut [u8], at: usize) -> usize
     at + 1
 }
 
-// The digits of its tenth are written first, and then the last. Four at most are written at once.
-pub fn put_number(n: usize, out: &mut [u8], at: usize) -> usize
-    requires { ⌜ at + length (digits n) ≤ length (now out) ⌝ }
+// Four at most.
+fn put_four(n: usize, out: &mut [u8], at: usize) -> usize
+    requires { ⌜ (n < 10000) × (at + length (digits n) ≤ length (now out)) ⌝ }
     ensures { λ r. ⌜ Wrote (digits n) (now (out .entry)) at (now (out .exit)) r ⌝ }
 {
-    if 10_000 <= n {
-        let to = put_number(n / 10, out, at);
-        out[to] = digit(n % 10);
-        return to + 1;
-    }
     if n < 100 {
         return put_few(n, out, at);
     }
     let to = put_few(n / 100, out, at);
     put_two(n % 100, out, to)
+}
+
+fn put_last(n: usize, out: &mut [u8], at: usize) -> usize
+    requires { ⌜ at < length (now out) ⌝ }
+    ensures { λ r. ⌜ Wrote (digit (n % 10) ∷ []) (now (out .entry)) at (now (out .exit)) r ⌝ }
+{
+    out[at] = digit(n % 10);
+    at + 1
+}
+
+// The digits of its tenth are written first, and then the last. Up to five digits it need not call itself.
+pub fn put_number(n: usize, out: &mut [u8], at: usize) -> usize
+    requires { ⌜ at + length (digits n) ≤ length (now out) ⌝ }
+    ensures { λ r. ⌜ Wrote (digits n) (now (out .entry)) at (now (out .exit)) r ⌝ }
+{
+    if 100_000 <= n {
+        let to = put_number(n / 10, out, at);
+        return put_last(n, out, to);
+    }
+    if 10_000 <= n {
+        let to = put_four(n / 10, out, at);
+        return put_last(n, out, to);
+    }
+    put_four(n, out, at)
 }

@@ -1,9 +1,8 @@
 use native.Mathlib.Omega.{arith}
-use native.Mathlib.Nat.{mod-lt}
 use mathlib.Core.List.{[], _∷_}
 use Rattle.dimacs.specs.Text.{digit, digits}
-use Rattle.dimacs.proofs.PutDigits.{first-room, rest-room, rest-wrote, last-room, more-wrote}
-use Rattle.dimacs.proofs.NumberText.{tens, pair, digits-more, digits-hundred}
+use Rattle.dimacs.proofs.PutDigits.{first-room, last-room, more-wrote}
+use Rattle.dimacs.proofs.NumberText.{tens, digits-more}
 use borrow.Author.Needs.{needs}
 use Prim.Native.Nat.{ℕ, _/_, _%_, _<_}
 use borrow.Fn.Kinds.{In}
@@ -11,9 +10,8 @@ use borrow.Fn.PlainCycle.{Measures, is, falls, and}
 use Rattle.dimacs.proofs.digits.put_number.Reads as put-number
 use Rattle.dimacs.proofs.digits.put_number.Kinds as put-number-kinds
 use Rattle.dimacs.proofs.digits.+put_number.Lts-put_number as put-number-lts
-use Rattle.dimacs.proofs.digits.digit.Reads as digit-reads
-use Rattle.dimacs.proofs.digits.put_few.Reads as put-few-reads
-use Rattle.dimacs.proofs.digits.put_two.Reads as put-two-reads
+use Rattle.dimacs.proofs.digits.put_four.Reads as put-four-reads
+use Rattle.dimacs.proofs.digits.put_last.Reads as put-last-reads
 use Rattle.dimacs.proofs.digits.+put_number.{statement}
 use Rattle.dimacs.proofs.digits.+put_number.Tie.{close}
 
@@ -32,42 +30,34 @@ put-number-below t =
 returns-more : (t : ℕ) → put-number-lts.Need-returns (
   put-number-below t,
   put-number.Post,
-  digit-reads.Asked,
-  digit-reads.Learnt,
-  put-few-reads.Asked,
-  put-few-reads.Learnt,
-  put-two-reads.Asked,
-  put-two-reads.Learnt,
+  put-last-reads.Asked,
+  put-last-reads.Learnt,
+  put-four-reads.Asked,
+  put-four-reads.Learnt,
 ) (put-number-at t) put-number.Post
-returns-more t c = more-wrote (c .before .before .before .before .before .before .before .args .n) (omega arith) _ _ (c .before .before .before .before .before .before .before .pre .1) (c .before .before .before .put-number .ensures) (c .digit .ensures)
+returns-more t c = more-wrote (c .before .before .before .before .before .before .before .before .before .before .args .n) (omega arith) _ _ (c .before .before .before .before .before .before .before .before .before .before .pre .1) (c .before .before .before .before .before .before .put-number .ensures) (c .before .before .put-last .ensures)
 
 pub +put-number-spec : {M : Type 1} → statement M
 +put-number-spec = close μ-put-number λ t. put-number-lts.spec (
   put-number-below t,
   put-number.Post,
-  digit-reads.Asked,
-  digit-reads.Learnt,
-  put-few-reads.Asked,
-  put-few-reads.Learnt,
-  put-two-reads.Asked,
-  put-two-reads.Learnt,
+  put-last-reads.Asked,
+  put-last-reads.Learnt,
+  put-four-reads.Asked,
+  put-four-reads.Learnt,
 )
     (put-number-at t)
     put-number.Post
     (λ c κs. let n = c .before .before .before .args .n in
     (rw (← (c .before .before .before .pre .0)) (tens n .falls (omega arith)), first-room n (digits (n / 10)) (digit (n % 10) ∷ []) (digits-more n (omega arith)) (c .before .before .before .args .out .now) _ (c .before .before .before .pre .1)))
-    (λ c κs. search needs)
-    (λ c. last-room (c .before .before .before .before .before .before .before .args .n) (omega arith) _ _ (c .before .before .before .before .before .before .before .pre .1) (c .before .before .before .put-number .ensures))
-    (λ c. omega (arith, last-room (c .before .before .before .before .before .before .before .args .n) (omega arith) _ _ (c .before .before .before .before .before .before .before .pre .1) (c .before .before .before .put-number .ensures)))
+    (λ c κs. last-room (c .before .before .before .before .before .before .before .args .n) (omega arith) _ _ (c .before .before .before .before .before .before .before .pre .1) (c .before .before .before .put-number .ensures))
     (λ c. search needs)
     (returns-more t)
-    (λ c κs. (c .before .if2 .taken, c .before .before .before .before .pre .1))
-    (λ c. search needs)
-    (λ c. c .before .before .put-few .ensures)
     (λ c κs. let n = c .before .before .before .before .args .n in
-    (omega arith, first-room n (digits (n / 100)) (pair (n % 100)) (digits-hundred n (c .before .if2 .left)) (c .before .before .before .before .args .out .now) _ (c .before .before .before .before .pre .1)))
-    (λ c κs. let n = c .before .before .before .before .before .before .before .before .args .n in
-    (mod-lt n {m = 100} (omega arith), rest-room n (digits (n / 100)) (pair (n % 100)) (digits-hundred n (c .before .before .before .before .before .if2 .left)) _ _ (c .before .before .before .before .before .before .before .before .pre .1) (c .before .before .before .put-few2 .ensures)))
+    (omega (arith, tens n .whole), first-room n (digits (n / 10)) (digit (n % 10) ∷ []) (digits-more n (omega arith)) (c .before .before .before .before .args .out .now) _ (c .before .before .before .before .pre .1)))
+    (λ c κs. last-room (c .before .before .before .before .before .before .before .before .args .n) (omega arith) _ _ (c .before .before .before .before .before .before .before .before .pre .1) (c .before .before .before .put-four .ensures))
     (λ c. search needs)
-    (λ c. let n = c .before .before .before .before .before .before .before .before .before .before .before .args .n in
-    rest-wrote n (digits (n / 100)) (pair (n % 100)) (digits-hundred n (c .before .before .before .before .before .before .before .before .if2 .left)) _ _ (c .before .before .before .before .before .before .before .before .before .before .before .pre .1) (c .before .before .before .before .before .before .put-few2 .ensures) (c .before .before .put-two .ensures))
+    (λ c. more-wrote (c .before .before .before .before .before .before .before .before .before .before .before .args .n) (omega arith) _ _ (c .before .before .before .before .before .before .before .before .before .before .before .pre .1) (c .before .before .before .before .before .before .put-four .ensures) (c .before .before .put-last2 .ensures))
+    (λ c κs. (c .before .if2 .left, c .before .before .before .before .pre .1))
+    (λ c. search needs)
+    (λ c. c .before .before .put-four2 .ensures)
