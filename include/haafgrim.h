@@ -5,11 +5,11 @@
  *   others   refused, with the number and the place of the table in docs/STATEMENTS.md; nothing of `out` is changed.
  * `*place` is set on every answer. (haafgrim_from_two_powers alone has no buffer and no place: it answers its mask.)
  * Refusals are listed below in the order in which they are tested; in a walk over words, the first word that offends decides, and so 4 and 5 of a clue
- * and 1, 2, 3, 4, 5, 7 and 8 of a puzzle go by word.
+ * 1, 2, 3, 4, 5, 7 and 8 of a puzzle, and 1, 17, 18 and 19 of probe words go by word.
  *
  * A slice is a pointer and then its length in elements; where the length is 0 the pointer is not used and may be NULL.
  * `place` points to one writable size_t. The lent memory, `out` and `*place`, overlaps neither the inputs nor each other.
- * The entries keep no state and allocate nothing: they may run at the same time on different memory. 64 KiB of stack are enough for each.
+ * The entries keep no state and allocate nothing: they may run at the same time, on memory of their own to write to. 128 KiB of stack are enough for each.
  */
 #ifndef HAAFGRIM_H
 #define HAAFGRIM_H
@@ -78,7 +78,7 @@ uint32_t haafgrim_probes(const uint32_t *puzzle, size_t puzzle_len, const uint32
 
 /* Clause words as DIMACS CNF text: `sections` sections in the form in which haafgrim_clauses writes ten; any words may be given, and 22 is the answer to all that are not of that form. The first line is `p cnf V C`, with the number of variables
  * and that of clauses; then comes a line for each clause, its literals and 0 parted by single spaces; a newline after each line, no comments, no zero byte at the end.
- * Literals are of the variables 1 to `variables`; each section's clauses follow those of the section before. Two different formulas never give one text.
+ * Literals are of the variables 1 to `variables`; each section's clauses follow those of the section before. Two different numbers of variables or lists of clauses never give one text.
  * Needs as many bytes as the text has; 12 says how many. Refuses: 21 (place 0 for over 1,000,000 variables, 1 for over 16 sections, 2 for over 1,073,741,824 words), 22, 12. */
 uint32_t haafgrim_dimacs(size_t variables, size_t sections, const int32_t *words, size_t words_len, uint8_t *out, size_t out_len, size_t *place);
 
