@@ -5,7 +5,8 @@ cannot hold raise OverflowError, and what is no whole number raises TypeError, b
 
 A colour is a number 1 to 31, and 0 is blank. A grid is its cells' colours row by row; `grid` makes one of rows. A clue is a size and a colour for each
 block. A puzzle is words such as `read_grid` gives; the scope document has their layout. Its colours are those of the blocks of its rows, or colour 1 where
-there are none. A list of numbers is any iterable: bytes and arrays of the right type are the quickest. Cells and text come back as bytes, words as an array.
+there are none. A list of numbers is any iterable: bytes and arrays of the right type are the quickest. Cells and text come back as bytes, the words of
+puzzles and clauses as an array. The library is asked first how long a result is, so it does its checks twice.
 
     puzzle = haafgrim.read_grid(*haafgrim.grid([[1, 0], [0, 1]]))
     text = haafgrim.dimacs(haafgrim.counts(puzzle).variables, 10, haafgrim.clauses(puzzle))

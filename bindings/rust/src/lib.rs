@@ -1,8 +1,8 @@
 //! Nonogram clues to SAT clauses and back: the proved library Haafgrim.
 //!
 //! Every function takes any input and answers what it was asked for, or the one [`Refusal`] that the library gives it. Results
-//! are sized by asking the library first, so none of these functions answers 12, too little room. Where a buffer is at hand,
-//! [`lent`] has the same functions without allocation.
+//! are sized by asking the library first, so none of these functions answers 12, too little room, and the checks are made twice.
+//! Where a buffer is at hand, [`lent`] has the same functions without allocation.
 //!
 //! A colour is a number 1 to 31, and 0 is blank. A grid is its cells' colours row by row. A clue is a size and a colour for each
 //! block. A puzzle is words such as [`read_grid`] gives; the scope document has their layout. Its colours are those of the blocks
