@@ -19,6 +19,13 @@ use Rattle.cells.specs.Found.{coveringBlock}
 abbrev pub reaching : ℕ → ℕ → ℕ → ℕ → Bool
 reaching start size t i = leb (start + i) t && ltb t (start + i + size)
 
+module _ (start size t i : ℕ) (l : start + i ≤ t) where
+  pub reaching-true : t < start + i + size → reaching start size t i ≡ true
+  reaching-true m = rw (le-leb (start + i) t l, lt-ltb t (start + i + size) m)
+
+  pub reaching-false : start + i + size ≤ t → reaching start size t i ≡ false
+  reaching-false m = rw (le-leb (start + i) t l, le-ltb t (start + i + size) m)
+
 -- one element more, or none, with both bounds
 grow : (l : List ℕ) (b : Bool) (x p lo hi : ℕ) → (b ≡ true → (lo ≤ p) × (p < hi)) → (length l ≤ p - lo) × (length l ≤ hi - lo)
     → (length (l ++ when b (x ∷ [])) ≤ suc p - lo) × (length (l ++ when b (x ∷ [])) ≤ hi - lo)
@@ -46,7 +53,7 @@ module _ (v start size t : ℕ) where
   block-most p = omega (arith, within p .1)
 
   -- none of those that begin behind t
-  late : (n i : ℕ) → t < start + i → each n (λ k. when (reaching start size t (i + k)) ((v + (i + k)) ∷ [])) ≡ []
+  pub late : (n i : ℕ) → t < start + i → each n (λ k. when (reaching start size t (i + k)) ((v + (i + k)) ∷ [])) ≡ []
   unfolding each
   late zero i l = refl
   late (suc n) i l =
@@ -63,26 +70,20 @@ module _ (v start size t : ℕ) where
     reaching-first found at h = emit-first p _ found at h
 
     module _ {found₀ found : List ℕ} {at₀ at i : ℕ} (E : Reaching found₀ at₀ found at i) (h : i < p) where
-      skip : reaching start size t i ≡ false → Reaching found₀ at₀ found at (i + 1)
-      skip e = emit-next E h (rw e (wrote-none found at))
-
       -- the positions from here on begin behind the cell
       pub reaching-late : t < start + i → Wrote (coveringBlock v p start size t) found₀ at₀ found at
       unfolding coveringBlock rest
       reaching-late l = fill-done (E .fill) (late (p - i) i l)
 
       pub reaching-early : start + i ≤ t → start + i + size ≤ t → Reaching found₀ at₀ found at (i + 1)
-      reaching-early l m = skip (rw (le-leb (start + i) t l, le-ltb t (start + i + size) m))
+      reaching-early l m = emit-next E h (rw (reaching-false start size t i l m) (wrote-none found at))
 
       module _ (l : start + i ≤ t) (m : t < start + i + size) where
-        here : reaching start size t i ≡ true
-        here = rw (le-leb (start + i) t l, lt-ltb t (start + i + size) m)
-
         pub reaching-space : at < length found
-        reaching-space = omega (arith, rw here at (emit-room E h))
+        reaching-space = omega (arith, rw (reaching-true start size t i l m) at (emit-room E h))
 
         pub reaching-next : Reaching found₀ at₀ (set found at (v + i)) (at + 1) (i + 1)
-        reaching-next = emit-next E h (rw here (wrote-store found at (v + i) reaching-space))
+        reaching-next = emit-next E h (rw (reaching-true start size t i l m) (wrote-store found at (v + i) reaching-space))
 
     pub reaching-done : {found₀ found : List ℕ} {at₀ at i : ℕ} → Reaching found₀ at₀ found at i → p ≤ i → Wrote (coveringBlock v p start size t) found₀ at₀ found at
     unfolding coveringBlock

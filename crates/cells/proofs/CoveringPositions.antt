@@ -1,7 +1,7 @@
 -- The positions that cover a cell: at most 64 of them, all of them variables.
-use mathlib.Core.Path.{_≡_, refl, ap}
+use mathlib.Core.Path.{_≡_, refl, ap, _∙_}
 use mathlib.Core.Bool.{Bool, true, false}
-use mathlib.Core.List.{List, [], _∷_, _++_}
+use mathlib.Core.List.{List, [], _∷_, _++_, map, map-append}
 use Prim.Native.Nat.{ℕ, zero, suc, _+_, _-_, _≤_, _<_}
 use native.Mathlib.Omega.{arith}
 use native.Mathlib.Decide.{decLt}
@@ -52,6 +52,18 @@ module _ (P : ℕ → Type 0) where
   covering-every L c t h =
       every-each (many L) _ (λ b k. every-when (eqb (at (L .runs) b .color) c) _
       (every-each (L .positions) _ (λ i l. every-when (covers (placedAt L b i) t) _ (every-one (variable L b i) (h b i k l)))))
+
+-- ---- what is made of each of them
+
+module _ {A : Type 0} (f : ℕ → A) where
+  pub map-turns : (n : ℕ) (g : ℕ → List ℕ) → map f (each n g) ≡ each n (λ k. map f (g k))
+  unfolding each
+  map-turns zero g = refl
+  map-turns (suc n) g = map-append f (each n g) (g n) ∙ rw (map-turns n g)
+
+  pub map-when : (b : Bool) (l : List ℕ) → map f (when b l) ≡ when b (map f l)
+  map-when true l = refl
+  map-when false l = refl
 
 -- ---- block by block
 

@@ -25,7 +25,7 @@ pub record BlockRead (line clue : List ℕ) (b first p start size : ℕ) : Type 
   pub size-is : size ≡ getD clue (2 * b) 0
 
 module _ {line clue : List ℕ} {b first p start size : ℕ} (B : BlockRead line clue b first p start size) where
-  of-line : b < many (lineOf line clue)
+  pub of-line : b < many (lineOf line clue)
   of-line = omega (arith, of-many line clue, B .below)
 
   pub block-within : Sound (lineOf line clue) → (first + b * p + p ≤ largest + 1) × (start + size + p ≤ 65)
@@ -35,7 +35,7 @@ module _ {line clue : List ℕ} {b first p start size : ℕ} (B : BlockRead line
       let far = rw (← of-start line clue b of-line, ← of-size line clue b of-line, ← B .start-is, ← B .size-is) at (sound-within S b of-line (p - 1) (omega (arith, of-positions line clue, B .positions-is))) in
       (omega (arith, low), omega (arith, far, of-positions line clue, B .positions-is))
 
-  block-is : (c t : ℕ) → getD clue (2 * b + 1) 0 ≡ c → ofBlock (lineOf line clue) c t b ≡ coveringBlock (first + b * p) p start size t
+  pub block-is : (c t : ℕ) → getD clue (2 * b + 1) 0 ≡ c → ofBlock (lineOf line clue) c t b ≡ coveringBlock (first + b * p) p start size t
   block-is c t q = rw (← of-color line clue b of-line, eq-eqb (getD clue (2 * b + 1) 0) c q, ← of-start line clue b of-line, ← of-size line clue b of-line, ← of-first line clue, ← of-positions line clue, B .first-is, B .positions-is, B .start-is, B .size-is)
 
 -- the loop

@@ -13,20 +13,26 @@ use Rattle.puzzles.specs.Checks.{puzzle}
 use Rattle.boards.specs.declared.board.Board.{Board}
 use Rattle.numbering.specs.Variables.{lineAt, hues, cellFirst, variables}
 use Rattle.numbering.specs.Names.{position}
+use Rattle.numbering.specs.Tables.{lineOf}
+use Rattle.numbering.proofs.SoundLines.{of-first, of-positions}
 use Rattle.numbering.proofs.Bounds.{first-some}
 use Rattle.numbering.proofs.OneToOne.{number-within}
 use Rattle.cells.specs.Cells.{covering}
 use Rattle.cells.specs.Given.{Shows}
 use Rattle.cells.proofs.BoardCells.{cellAt, cell-is}
 use Rattle.cells.proofs.CoveringPositions.{covering-every}
+use Rattle.cells.proofs.LinePositions.{BlockRead, of-line}
 use Rattle.points.specs.Points.{Masked}
 use Rattle.points.proofs.PointCells.{masks-are}
-use Rattle.colored.specs.Models.{Of, AllOf}
+use Rattle.colored.specs.Models.{Of, AllOf, LineOf}
 
 module _ (model : List ℕ) (z : Puzzle) (all : length model ≡ variables z) where
-  pub covering-within : (l c t : ℕ) → l < lines z → AllOf model (covering (lineAt z l) c t)
+  pub line-within : (l : ℕ) → l < lines z → LineOf model (lineAt z l)
   unfolding lineAt
-  covering-within l c t h = covering-every (Of model) (lineAt z l) c t (λ b i k m. rw all (number-within z (position l b i) (h, omega (arith, packed-length gap (clueAt z l)), m)))
+  line-within l h b i k m = rw all (number-within z (position l b i) (h, omega (arith, packed-length gap (clueAt z l)), m))
+
+  pub covering-within : (l c t : ℕ) → l < lines z → AllOf model (covering (lineAt z l) c t)
+  covering-within l c t h = covering-every (Of model) (lineAt z l) c t (line-within l h)
 
   module _ {board : Board} {k : ℕ} (S : Shows board k z) (x y : ℕ) (h : x < board .width) (l : y < board .height) where
     pub cell-within : (0 < cellAt board k x y) × (cellAt board k x y + k ≤ length model + 1)
@@ -38,6 +44,11 @@ module _ (model : List ℕ) (z : Puzzle) (all : length model ≡ variables z) wh
 
     pub color-within : (r : ℕ) → r < k → Of model (cellAt board k x y + r)
     color-within r m = (omega (arith, cell-within), omega (arith, cell-within))
+
+-- the positions of a block, as its numbers are read
+pub block-variables : (model : List ℕ) {line clue : List ℕ} {b first p start size : ℕ} → BlockRead line clue b first p start size → LineOf model (lineOf line clue) → (i : ℕ) → i < p → Of model (first + b * p + i)
+block-variables model {line} {clue} {b} B W i m =
+    rw (B .first-is, B .positions-is, of-first line clue, of-positions line clue) (W b i (of-line B) (omega (arith, B .positions-is, of-positions line clue)))
 
 pub masks-within : (model : List ℕ) {ws : List ℕ} {board : Board} {palette : List ℕ} → Masked ws board palette → length model ≡ variables (puzzle ws)
     → (0 < board .first) × (board .first + length (take (length ws - (board .cells + 1)) (drop (board .cells + 1) ws)) * length palette ≤ length model + 1)

@@ -3,6 +3,7 @@ use mathlib.Core.Bool.{Bool, false, not}
 use mathlib.Core.List.{List}
 use Prim.Native.Nat.{ℕ, _≤_, _<_}
 use lib.ListN.{length, getD}
+use Rattle.numbering.specs.Variables.{Line, many, variable}
 use Rattle.cells.specs.declared.rule.Rule.{Rule}
 use Rattle.cells.specs.declared.rule.Rule.the-variants.{Color, Space}
 
@@ -11,6 +12,10 @@ Of model v = (0 < v) × (v ≤ length model)
 
 abbrev pub AllOf : List ℕ → List ℕ → Type 0
 AllOf model us = (i : ℕ) → i < length us → Of model (getD us i 0)
+
+-- each position of a line's blocks
+abbrev pub LineOf : List ℕ → Line → Type 0
+LineOf model L = (b i : ℕ) → b < many L → i < L .positions → Of model (variable L b i)
 
 -- the rule is kept whatever covers the cell: 7, where the cell variable is not true
 abbrev pub spares : Rule → Bool → Bool

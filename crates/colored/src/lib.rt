@@ -2,4 +2,5 @@
 pub mod once;
 pub mod precomputed;
 pub mod section;
+mod spaces;
 mod support;

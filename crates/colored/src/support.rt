@@ -1,4 +1,4 @@
-// Tests of a single clause, and of a cell variable and the positions that were found.
+// Tests of a single clause, and of the positions that were found.
 use cells::rule::Rule;
 use truth::Tested;
 use truth::on;
@@ -9,8 +9,7 @@ ghost use Prim.Native.Nat.{_+_, _^_, _<_};
 ghost use Rattle.literals.specs.Literals.{positive};
 ghost use Rattle.sections.specs.Sections.{Clause};
 ghost use Rattle.truth.specs.Truth.{Assignment, value, clauseTrue};
-ghost use Rattle.truth.specs.Tested.{tested, said, Countable};
-ghost use Rattle.cells.specs.Cells.{ruled};
+ghost use Rattle.truth.specs.Tested.{tested, said};
 ghost use Rattle.cells.specs.declared.rule.Rule.the-variants.{Space};
 ghost use Rattle.colored.specs.Models.{Of, AllOf, spares};
 
@@ -37,7 +36,7 @@ pub fn spared(rule: Rule, model: &[u8], v: usize) -> bool
 }
 
 // Whether some position is on.
-fn some_on(model: &[u8], found: &[usize]) -> bool
+pub fn some_on(model: &[u8], found: &[usize]) -> bool
     requires { ⌜ AllOf (now model) (now found) ⌝ }
     ensures { λ r. ⌜ r ≡ clauseTrue (value (now (model .entry))) (map positive (now (found .entry))) ⌝ }
 {
@@ -47,34 +46,4 @@ fn some_on(model: &[u8], found: &[usize]) -> bool
         }
     }
     false
-}
-
-// 8: a cell that is covered has the colour.
-fn test_space(model: &[u8], found: &[usize], v: usize, at: usize) -> Tested
-    requires { ⌜ AllOf (now model) (now found) × Of (now model) v ⌝ }
-    requires { ⌜ Countable at (ruled Space v (now found)) ⌝ }
-    ensures { λ r. ⌜ said r ≡ tested (value (now (model .entry))) at (ruled Space v (now (found .entry))) ⌝ }
-{
-    let n = found.len();
-    if on(model, v) {
-        return Tested::Fine(at + n);
-    }
-    for i in 0..n {
-        if on(model, found[i]) {
-            return Tested::False(at + i);
-        }
-    }
-    Tested::Fine(at + n)
-}
-
-// What the rule says of them, where it is not spared. 7: a cell that has the colour is covered.
-pub fn test_found(rule: Rule, model: &[u8], found: &[usize], v: usize, at: usize) -> Tested
-    requires { ⌜ AllOf (now model) (now found) × Of (now model) v × (spares rule (value (now model) v) ≡ false) ⌝ }
-    requires { ⌜ Countable at (ruled rule v (now found)) ⌝ }
-    ensures { λ r. ⌜ said r ≡ tested (value (now (model .entry))) at (ruled rule v (now (found .entry))) ⌝ }
-{
-    match rule {
-        Rule::Color => test_one(some_on(model, found), at),
-        Rule::Space => test_space(model, found, v, at),
-    }
 }

@@ -1,9 +1,9 @@
 -- What each of the ten families says by itself, and all of them together. It holds of every puzzle, accepted or not.
-use mathlib.Core.Path.{_≡_, refl, ap, _∙_}
+use mathlib.Core.Path.{_≡_, refl, ap}
 use mathlib.Core.Logic.{_↔_, Iff·trans}
-use mathlib.Core.Bool.{Bool, true, false, not}
-use mathlib.Core.List.{List, [], _∷_, map, map-append}
-use Prim.Native.Nat.{ℕ, zero, suc, _+_, _<_}
+use mathlib.Core.Bool.{true, not}
+use mathlib.Core.List.{List, [], _∷_, map}
+use Prim.Native.Nat.{ℕ, _+_, _<_}
 use native.Mathlib.Omega.{arith}
 use lib.Dec.{eqb}
 use borrow.Author.Tests.{eq-eqb, eqb-true}
@@ -25,6 +25,7 @@ use Rattle.cells.specs.Cells as C
 use Rattle.cells.specs.Cells.{covering, ofColor, byColumn, ofCells, pointOnce, precomputed, maskAt, precomputedCells}
 use Rattle.cells.specs.declared.rule.Rule as D
 use Rattle.cells.specs.declared.rule.Rule.the-variants.{Color, Space}
+use Rattle.cells.proofs.CoveringPositions.{map-turns, map-when}
 use Rattle.counts.specs.Families.{families, joined, clauses}
 use Rattle.truth.specs.Truth.{Assignment, Satisfies}
 use Rattle.pictures.specs.Meaning.{SomePosition, OnePosition, NoConflict, Covers, IsCovered, IsColored, EachColumn, EachRow, EachCell, OneColor, MaskSays, Units, Meanings}
@@ -32,20 +33,10 @@ use Rattle.pictures.proofs.TrueClauses.{Holds, none-means, one-means, a
 
 -- ---- the positions that cover a cell, as literals or clauses are made of them
 
-module _ {A : Type 0} (f : ℕ → A) where
-  map-each : (n : ℕ) (g : ℕ → List ℕ) → map f (each n g) ≡ each n (λ k. map f (g k))
-  unfolding each
-  map-each zero g = refl
-  map-each (suc n) g = map-append f (each n g) (g n) ∙ rw (map-each n g)
-
-  map-when : (b : Bool) (l : List ℕ) → map f (when b l) ≡ when b (map f l)
-  map-when true l = refl
-  map-when false l = refl
-
-  map-covering : (L : Line) (c t : ℕ)
-      → map f (covering L c t) ≡ each (many L) (λ b. when (eqb (at (L .runs) b .color) c) (each (L .positions) (λ i. when (covers (placedAt L b i) t) (f (variable L b i) ∷ []))))
-  unfolding covering
-  map-covering L c t = simp (map-each, map-when)
+map-covering : {A : Type 0} (f : ℕ → A) (L : Line) (c t : ℕ)
+    → map f (covering L c t) ≡ each (many L) (λ b. when (eqb (at (L .runs) b .color) c) (each (L .positions) (λ i. when (covers (placedAt L b i) t) (f (variable L b i) ∷ []))))
+unfolding covering
+map-covering f L c t = simp (map-turns f, map-when f)
 
 module _ (β : Assignment) where
   -- ---- of a line

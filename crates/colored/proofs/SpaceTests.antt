@@ -1,0 +1,108 @@
+-- What 8 says of the positions that cover a cell, tested where they are found: block by block, and the positions of a block.
+use mathlib.Core.Path.{_≡_, refl, sym, _∙_}
+use mathlib.Core.Bool.{true, false, not, or-true, or-false}
+use mathlib.Core.List.{List, [], _∷_}
+use Prim.Native.Nat.{ℕ, _+_, _-_, _*_, _/_, _^_, _≤_, _<_}
+use native.Mathlib.Omega.{arith}
+use lib.ListN.{length, getD}
+use borrow.Author.Tests.{ne-eqb}
+use Rattle.lists.specs.Each.{each, when}
+use Rattle.lists.proofs.Eaches.{rest}
+use Rattle.literals.specs.Literals.{positive, negative}
+use Rattle.truth.specs.Truth.{Assignment, literalTrue, clauseTrue}
+use Rattle.truth.specs.Tested.{tested, said, Countable}
+use Rattle.truth.specs.declared.Tested.{Tested}
+use Rattle.truth.specs.declared.Tested.the-variants.{Fine, False}
+use Rattle.truth.proofs.Testing.{Testing, testing-first, testing-room, testing-stop, testing-next, testing-done}
+use Rattle.truth.proofs.RowTests.{negative-true, one-true, one-false}
+use Rattle.numbering.specs.Variables.{many}
+use Rattle.numbering.specs.Tables.{lineOf}
+use Rattle.numbering.proofs.SoundLines.{of-many, of-color}
+use Rattle.cells.specs.declared.rule.Rule.the-variants.{Space}
+use Rattle.cells.specs.Cells.{covering, ruled}
+use Rattle.cells.specs.Found.{coveringBlock}
+use Rattle.cells.proofs.BlockPositions.{reaching, reaching-true, reaching-false, late}
+use Rattle.cells.proofs.CoveringPositions.{map-turns, ofBlock, covering-blocks}
+use Rattle.cells.proofs.LinePositions.{BlockRead, of-line, block-is}
+
+space-turns : (v n : ℕ) (f : ℕ → List ℕ) → ruled Space v (each n f) ≡ each n (λ k. ruled Space v (f k))
+unfolding ruled
+space-turns v n f = map-turns _ n f
+
+-- ---- the positions of a block
+
+module _ (β : Assignment) (v u p start size t : ℕ) where
+  abbrev pub BlockTesting : ℕ → ℕ → ℕ → Type 0
+  BlockTesting at to i = Testing β at (ruled Space v (coveringBlock u p start size t)) p (λ k. ruled Space v (when (reaching start size t k) ((u + k) ∷ []))) to i
+
+  pub block-first : (at : ℕ) → BlockTesting at at 0
+  unfolding coveringBlock
+  block-first at = testing-first β p _ at _ (space-turns v p _)
+
+  module _ {at to i : ℕ} (T : BlockTesting at to i) (h : i < p) where
+    -- the positions from here on begin behind the cell
+    pub block-late : t < start + i → said (Fine to) ≡ tested β at (ruled Space v (coveringBlock u p start size t))
+    unfolding rest tested ruled
+    block-late l =
+        sym (T .same ∙ rw (← space-turns v (p - i) (λ k. when (reaching start size t (i + k)) ((u + (i + k)) ∷ [])), late u start size t (p - i) i l))
+
+    module _ (l : start + i ≤ t) where
+      pub block-early : start + i + size ≤ t → BlockTesting at to (i + 1)
+      unfolding tested ruled
+      block-early m = testing-next T h (Fine to) (rw (reaching-false start size t i l m)) refl
+
+      module _ (m : t < start + i + size) where
+        pub block-room : Countable at (ruled Space v (coveringBlock u p start size t)) → to + 1 < 2 ^ 63
+        unfolding ruled
+        block-room r = rw (reaching-true start size t i l m) at (testing-room T h r)
+
+        passed : clauseTrue β (negative (u + i) ∷ positive v ∷ []) ≡ true → BlockTesting at (to + 1) (i + 1)
+        unfolding ruled
+        passed e = testing-next T h (Fine (to + 1)) (rw (reaching-true start size t i l m) (one-true β to _ e)) refl
+
+        pub block-on : β v ≡ true → BlockTesting at (to + 1) (i + 1)
+        unfolding clauseTrue literalTrue
+        block-on e = passed (rw e (or-true (literalTrue β (negative (u + i)))))
+
+        module _ (off : β v ≡ false) (some : 0 < u + i) where
+          clause-is : clauseTrue β (negative (u + i) ∷ positive v ∷ []) ≡ not (β (u + i))
+          unfolding clauseTrue literalTrue
+          clause-is = rw (negative-true β (u + i) some, off) (or-false (not (β (u + i))))
+
+          pub block-stop : β (u + i) ≡ true → said (False to) ≡ tested β at (ruled Space v (coveringBlock u p start size t))
+          unfolding ruled
+          block-stop e = testing-stop T h (False to) (rw (reaching-true start size t i l m) (one-false β to _ (clause-is ∙ rw e))) refl
+
+          pub block-next : β (u + i) ≡ false → BlockTesting at (to + 1) (i + 1)
+          block-next e = passed (clause-is ∙ rw e)
+
+-- ---- the blocks of a line
+
+module _ (β : Assignment) (v : ℕ) (line clue : List ℕ) (c t : ℕ) where
+  abbrev pub BlocksTesting : ℕ → ℕ → ℕ → Type 0
+  BlocksTesting at to b = Testing β at (ruled Space v (covering (lineOf line clue) c t)) (many (lineOf line clue)) (λ k. ruled Space v (ofBlock (lineOf line clue) c t k)) to b
+
+  pub blocks-first : (at : ℕ) → BlocksTesting at at 0
+  blocks-first at = testing-first β _ _ at _ (rw (covering-blocks (lineOf line clue) c t) (space-turns v (many (lineOf line clue)) (ofBlock (lineOf line clue) c t)))
+
+  module _ {at to b : ℕ} (T : BlocksTesting at to b) where
+    -- a block of another colour
+    pub blocks-other : b < length clue / 2 → (getD clue (2 * b + 1) 0 ≡ c → ⊥) → BlocksTesting at to (b + 1)
+    unfolding tested ruled
+    blocks-other h n =
+        let l : b < many (lineOf line clue) = omega (arith, of-many line clue) in
+        testing-next T l (Fine to) (rw (← of-color line clue b l, ne-eqb (getD clue (2 * b + 1) 0) c n)) refl
+
+    module _ {first p start size : ℕ} (B : BlockRead line clue b first p start size) (q : getD clue (2 * b + 1) 0 ≡ c) where
+      pub blocks-room : Countable at (ruled Space v (covering (lineOf line clue) c t)) → Countable to (ruled Space v (coveringBlock (first + b * p) p start size t))
+      blocks-room r = rw (← block-is B c t q) (testing-room T (of-line B) r)
+
+      module _ (s : Tested) (e : said s ≡ tested β to (ruled Space v (coveringBlock (first + b * p) p start size t))) where
+        pub blocks-stop : {n : ℕ} → s ≡ False n → said s ≡ tested β at (ruled Space v (covering (lineOf line clue) c t))
+        blocks-stop d = testing-stop T (of-line B) s (rw (block-is B c t q) e) d
+
+        pub blocks-next : {n : ℕ} → s ≡ Fine n → BlocksTesting at n (b + 1)
+        blocks-next d = testing-next T (of-line B) s (rw (block-is B c t q) e) d
+
+    pub blocks-done : length clue / 2 ≤ b → said (Fine to) ≡ tested β at (ruled Space v (covering (lineOf line clue) c t))
+    blocks-done h = testing-done T (omega (arith, of-many line clue))

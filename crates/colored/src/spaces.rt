@@ -1,0 +1,117 @@
+// Family 8 of a line: a cell that is covered has the colour. Each position is tested where it is found.
+use boards::table::clue_end;
+use lists::wide;
+use truth::Tested;
+use truth::on;
+ghost use mathlib.Core.Path.{_≡_};
+ghost use Prim.Native.Nat.{ℕ, _+_, _≤_, _<_};
+ghost use lib.ListN.{length};
+ghost use Rattle.puzzles.specs.Puzzle as P;
+ghost use Rattle.puzzles.specs.Checks.{puzzle};
+ghost use Rattle.numbering.specs.Variables.{lineAt, variables};
+ghost use Rattle.numbering.specs.Tables.{lineOf, Sound, Ready};
+ghost use Rattle.truth.specs.Truth.{value};
+ghost use Rattle.truth.specs.Tested.{tested, said, Countable};
+ghost use Rattle.cells.specs.Cells.{covering, ruled};
+ghost use Rattle.cells.specs.Found.{coveringBlock};
+ghost use Rattle.cells.specs.declared.rule.Rule.the-variants.{Space};
+ghost use Rattle.colored.specs.Models.{Of, LineOf};
+
+// Of a block with p positions, numbered from u on, those that cover cell t. Where the cell variable v is on, they are only counted.
+fn test_block(
+    model: &[u8],
+    u: usize,
+    p: usize,
+    start: usize,
+    size: usize,
+    t: usize,
+    v: usize,
+    at: usize,
+) -> Tested
+    requires { ⌜ ((i : ℕ) → i < p → Of (now model) (u + i)) × Of (now model) v × (start + size + p ≤ 65) ⌝ }
+    requires { ⌜ Countable at (ruled Space v (coveringBlock u p start size t)) ⌝ }
+    ensures { λ r. ⌜ said r ≡ tested (value (now (model .entry))) at (ruled Space v (coveringBlock u p start size t)) ⌝ }
+{
+    let holds = on(model, v);
+    let mut to = at;
+    for i in 0..p {
+        if t < start + i {
+            return Tested::Fine(to);
+        }
+        if start + i + size <= t {
+            continue;
+        }
+        if holds {
+            to += 1;
+            continue;
+        }
+        if on(model, u + i) {
+            return Tested::False(to);
+        }
+        to += 1;
+    }
+    Tested::Fine(to)
+}
+
+// Of a line's words in the table and its clue's words: the positions of that colour.
+fn test_blocks(
+    line: &[u32],
+    clue: &[u32],
+    color: u32,
+    t: usize,
+    v: usize,
+    model: &[u8],
+    at: usize,
+) -> Tested
+    requires { ⌜ Sound (lineOf (now line) (now clue)) × (68 ≤ length (now line)) ⌝ }
+    requires { ⌜ LineOf (now model) (lineOf (now line) (now clue)) × Of (now model) v ⌝ }
+    requires { ⌜ Countable at (ruled Space v (covering (lineOf (now line) (now clue)) color t)) ⌝ }
+    ensures { λ r. ⌜ said r ≡ tested (value (now (model .entry))) at (ruled Space v (covering (lineOf (now (line .entry)) (now (clue .entry))) color t)) ⌝ }
+{
+    let first = wide(line[1]);
+    let p = wide(line[2]);
+    let mut to = at;
+    for b in 0..clue.len() / 2 {
+        if clue[2 * b + 1] != color {
+            continue;
+        }
+        let start = wide(line[4 + b]);
+        let size = wide(clue[2 * b]);
+        let block = test_block(model, first + b * p, p, start, size, t, v, to);
+        let Tested::Fine(next) = block else {
+            return block;
+        };
+        to = next;
+    }
+    Tested::Fine(to)
+}
+
+// Of line l and its cell t.
+pub fn test_spaces(
+    words: &[u32],
+    table: &[u32],
+    l: usize,
+    t: usize,
+    color: u32,
+    v: usize,
+    model: &[u8],
+    at: usize,
+) -> Tested
+    requires { ⌜ Ready (now words) (now table) ⌝ }
+    requires { ⌜ (l < P.lines (puzzle (now words))) × (length (now model) ≡ variables (puzzle (now words))) × Of (now model) v ⌝ }
+    requires { ⌜ Countable at (ruled Space v (covering (lineAt (puzzle (now words)) l) color t)) ⌝ }
+    ensures { λ r. ⌜ said r ≡ tested (value (now (model .entry))) at (ruled Space v (covering (lineAt (puzzle (now (words .entry))) l) color t)) ⌝ }
+{
+    let place = 68 * l;
+    let begin = wide(table[place]);
+    let end = clue_end(words, begin);
+    test_blocks(
+        &table[place..place + 68],
+        &words[begin + 1..end],
+        color,
+        t,
+        v,
+        model,
+        at,
+    )
+}
