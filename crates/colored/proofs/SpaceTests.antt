@@ -1,11 +1,15 @@
 -- What 8 says of the positions that cover a cell, tested where they are found: block by block, and the positions of a block.
 use mathlib.Core.Path.{_≡_, refl, sym, _∙_}
-use mathlib.Core.Bool.{true, false, not, or-true, or-false}
+use mathlib.Core.Bool.{Bool, true, false, not, cond, _&&_, or-true, or-false, false≢true}
 use mathlib.Core.List.{List, [], _∷_}
 use Prim.Native.Nat.{ℕ, _+_, _-_, _*_, _/_, _^_, _≤_, _<_}
 use native.Mathlib.Omega.{arith}
+use native.Mathlib.Nat.{add-zero}
+use native.Mathlib.Decide.{decLt}
+use lib.Dec.{eqb, ltb}
 use lib.ListN.{length, getD}
-use borrow.Author.Tests.{ne-eqb}
+use borrow.Author.Tests.{ne-eqb, lt-ltb, le-ltb}
+use Rattle.lists.proofs.Tests.{both}
 use Rattle.lists.specs.Each.{each, when}
 use Rattle.lists.proofs.Eaches.{rest}
 use Rattle.literals.specs.Literals.{positive, negative}
@@ -29,6 +33,10 @@ space-turns : (v n : ℕ) (f : ℕ → List ℕ) → ruled Space v (each n f) �
 unfolding ruled
 space-turns v n f = map-turns _ n f
 
+first-off : (b : Bool) → (b && true) ≡ false → b ≡ false
+first-off true e = e
+first-off false e = refl
+
 -- ---- the positions of a block
 
 module _ (β : Assignment) (v u p start size t : ℕ) where
@@ -47,34 +55,54 @@ module _ (β : Assignment) (v u p start size t : ℕ) where
         sym (T .same ∙ rw (← space-turns v (p - i) (λ k. when (reaching start size t (i + k)) ((u + (i + k)) ∷ [])), late u start size t (p - i) i l))
 
     module _ (l : start + i ≤ t) where
-      pub block-early : start + i + size ≤ t → BlockTesting at to (i + 1)
+      early : start + i + size ≤ t → BlockTesting at to (i + 1)
       unfolding tested ruled
-      block-early m = testing-next T h (Fine to) (rw (reaching-false start size t i l m)) refl
+      early m = testing-next T h (Fine to) (rw (reaching-false start size t i l m)) refl
 
       module _ (m : t < start + i + size) where
-        pub block-room : Countable at (ruled Space v (coveringBlock u p start size t)) → to + 1 < 2 ^ 63
+        room : Countable at (ruled Space v (coveringBlock u p start size t)) → to + 1 < 2 ^ 63
         unfolding ruled
-        block-room r = rw (reaching-true start size t i l m) at (testing-room T h r)
+        room r = rw (reaching-true start size t i l m) at (testing-room T h r)
 
         passed : clauseTrue β (negative (u + i) ∷ positive v ∷ []) ≡ true → BlockTesting at (to + 1) (i + 1)
         unfolding ruled
         passed e = testing-next T h (Fine (to + 1)) (rw (reaching-true start size t i l m) (one-true β to _ e)) refl
 
-        pub block-on : β v ≡ true → BlockTesting at (to + 1) (i + 1)
+        stopped : clauseTrue β (negative (u + i) ∷ positive v ∷ []) ≡ false → said (False to) ≡ tested β at (ruled Space v (coveringBlock u p start size t))
+        unfolding ruled
+        stopped e = testing-stop T h (False to) (rw (reaching-true start size t i l m) (one-false β to _ e)) refl
+
+      -- it counts where the cell is in front of its end
+      module _ {one : ℕ} (o : one ≡ cond (ltb t (start + i + size)) 1 0) where
+        counted : (P : ℕ → Type 0) → (t < start + i + size → P 1) → (start + i + size ≤ t → P 0) → P one
+        counted P f g = elim (decLt t (start + i + size)) [
+          | yes m ↦ rw (o, lt-ltb t (start + i + size) m) (f m)
+          | no m ↦ rw (o, le-ltb t (start + i + size) (omega arith)) (g (omega arith))
+        ]
+
+        pub block-room : Countable at (ruled Space v (coveringBlock u p start size t)) → to + one < 2 ^ 63
+        block-room r = counted (λ n. to + n < 2 ^ 63) (λ m. room m r) (λ m. omega (arith, testing-room T h r))
+
+        pub block-on : β v ≡ true → BlockTesting at (to + one) (i + 1)
         unfolding clauseTrue literalTrue
-        block-on e = passed (rw e (or-true (literalTrue β (negative (u + i)))))
+        block-on e = counted (λ n. BlockTesting at (to + n) (i + 1)) (λ m. passed m (rw e (or-true (literalTrue β (negative (u + i)))))) (λ m. rw add-zero (early m))
 
         module _ (off : β v ≡ false) (some : 0 < u + i) where
           clause-is : clauseTrue β (negative (u + i) ∷ positive v ∷ []) ≡ not (β (u + i))
           unfolding clauseTrue literalTrue
           clause-is = rw (negative-true β (u + i) some, off) (or-false (not (β (u + i))))
 
-          pub block-stop : β (u + i) ≡ true → said (False to) ≡ tested β at (ruled Space v (coveringBlock u p start size t))
-          unfolding ruled
-          block-stop e = testing-stop T h (False to) (rw (reaching-true start size t i l m) (one-false β to _ (clause-is ∙ rw e))) refl
+          pub block-stop : (β (u + i) && eqb one 1) ≡ true → said (False to) ≡ tested β at (ruled Space v (coveringBlock u p start size t))
+          block-stop =
+              counted (λ n. (β (u + i) && eqb n 1) ≡ true → said (False to) ≡ tested β at (ruled Space v (coveringBlock u p start size t)))
+              (λ m e. stopped m (clause-is ∙ rw (both (β (u + i)) _ e .0)))
+              (λ m e. absurd (false≢true (both (β (u + i)) _ e .1)))
 
-          pub block-next : β (u + i) ≡ false → BlockTesting at (to + 1) (i + 1)
-          block-next e = passed (clause-is ∙ rw e)
+          pub block-next : (β (u + i) && eqb one 1) ≡ false → BlockTesting at (to + one) (i + 1)
+          block-next =
+              counted (λ n. (β (u + i) && eqb n 1) ≡ false → BlockTesting at (to + n) (i + 1))
+              (λ m e. passed m (clause-is ∙ rw (first-off (β (u + i)) e)))
+              (λ m e. rw add-zero (early m))
 
 -- ---- the blocks of a line
 

@@ -4,7 +4,9 @@ use lists::wide;
 use truth::Tested;
 use truth::on;
 ghost use mathlib.Core.Path.{_≡_};
+ghost use mathlib.Core.Bool.{cond, _&&_};
 ghost use Prim.Native.Nat.{ℕ, _+_, _≤_, _<_};
+ghost use lib.Dec.{eqb, ltb};
 ghost use lib.ListN.{length};
 ghost use Rattle.puzzles.specs.Puzzle as P;
 ghost use Rattle.puzzles.specs.Checks.{puzzle};
@@ -16,6 +18,27 @@ ghost use Rattle.cells.specs.Cells.{covering, ruled};
 ghost use Rattle.cells.specs.Found.{coveringBlock};
 ghost use Rattle.cells.specs.declared.rule.Rule.the-variants.{Space};
 ghost use Rattle.colored.specs.Models.{Of, LineOf};
+
+// 1 where cell t is in front of an end, and else 0: positions are counted with no branch.
+fn before(t: usize, end: usize) -> usize
+    ensures { λ r. ⌜ r ≡ cond (ltb t end) 1 0 ⌝ }
+{
+    if t < end {
+        return 1;
+    }
+    0
+}
+
+// Whether a position is on and counts.
+fn both_on(model: &[u8], u: usize, one: usize) -> bool
+    requires { ⌜ Of (now model) u ⌝ }
+    ensures { λ r. ⌜ r ≡ value (now (model .entry)) u && eqb one 1 ⌝ }
+{
+    if on(model, u) {
+        return one == 1;
+    }
+    false
+}
 
 // Of a block with p positions, numbered from u on, those that cover cell t. Where the cell variable v is on, they are only counted.
 fn test_block(
@@ -38,17 +61,15 @@ fn test_block(
         if t < start + i {
             return Tested::Fine(to);
         }
-        if start + i + size <= t {
-            continue;
-        }
+        let one = before(t, start + i + size);
         if holds {
-            to += 1;
+            to += one;
             continue;
         }
-        if on(model, u + i) {
+        if both_on(model, u + i, one) {
             return Tested::False(to);
         }
-        to += 1;
+        to += one;
     }
     Tested::Fine(to)
 }

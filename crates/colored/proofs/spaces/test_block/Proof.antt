@@ -1,4 +1,4 @@
-use Rattle.colored.proofs.SpaceTests.{BlockTesting, block-first, block-late, block-early, block-room, block-on, block-stop, block-next}
+use Rattle.colored.proofs.SpaceTests.{BlockTesting, block-first, block-late, block-room, block-on, block-stop, block-next}
 use Rattle.truth.proofs.Testing.{testing-done}
 use mathlib.Core.Path.{sym, _∙_}
 use native.Mathlib.Omega.{arith}
@@ -26,18 +26,16 @@ test-block-spec =
     (λ c. block-late _ _ _ _ _ _ _ (c .before .before .loop .inv) (c .before .loop-test .taken) (c .if1 .taken))
     (λ c. search needs)
     (λ c. search needs)
+    (λ c κs. search needs)
+    (λ c. omega (arith, block-room _ _ _ _ _ _ _ (c .before .before .before .before .loop .inv) (c .before .before .before .loop-test .taken) (c .before .before .if1 .left) (c .before .before2 .ensures) (c .before .before .before .before .before .before .before .pre .1)))
     (λ c. search needs)
     (λ c. search needs)
-    (λ c. block-early _ _ _ _ _ _ _ (c .before .before .before .loop .inv) (c .before .before .loop-test .taken) (c .before .if1 .left) (c .if2 .taken))
-    (λ c. omega (arith, block-room _ _ _ _ _ _ _ (c .before .before .before .before .loop .inv) (c .before .before .before .loop-test .taken) (c .before .before .if1 .left) (c .before .if2 .left) (c .before .before .before .before .before .before .before .pre .1)))
-    (λ c. search needs)
-    (λ c. search needs)
-    (λ c. block-on _ _ _ _ _ _ _ (c .before .before .before .before .loop .inv) (c .before .before .before .loop-test .taken) (c .before .before .if1 .left) (c .before .if2 .left) (sym (c .before .before .before .before .before .on .ensures) ∙ c .if3 .taken))
+    (λ c. block-on _ _ _ _ _ _ _ (c .before .before .before .before .loop .inv) (c .before .before .before .loop-test .taken) (c .before .before .if1 .left) (c .before .before2 .ensures) (sym (c .before .before .before .before .before .on .ensures) ∙ c .if2 .taken))
     (λ c. omega (arith, c .before .before .before .before .before .before .before .pre .0 .0 _ (c .before .before .before .loop-test .taken)))
     (λ c κs. c .before .before .before .before .before .before .before .pre .0 .0 _ (c .before .before .before .loop-test .taken))
-    (λ c. block-stop _ _ _ _ _ _ _ (c .before .before .before .before .before .before .loop .inv) (c .before .before .before .before .before .loop-test .taken) (c .before .before .before .before .if1 .left) (c .before .before .before .if2 .left) (sym (c .before .before .before .before .before .before .before .on .ensures) ∙ c .before .before .if3 .left) (c .before .before .before .before .before .before .before .before .before .pre .0 .0 _ (c .before .before .before .before .before .loop-test .taken) .0) (sym (c .before .on2 .ensures) ∙ c .if4 .taken))
-    (λ c. omega (arith, block-room _ _ _ _ _ _ _ (c .before .before .before .before .before .before .loop .inv) (c .before .before .before .before .before .loop-test .taken) (c .before .before .before .before .if1 .left) (c .before .before .before .if2 .left) (c .before .before .before .before .before .before .before .before .before .pre .1)))
+    (λ c. block-stop _ _ _ _ _ _ _ (c .before .before .before .before .before .before .loop .inv) (c .before .before .before .before .before .loop-test .taken) (c .before .before .before .before .if1 .left) (c .before .before .before .before2 .ensures) (sym (c .before .before .before .before .before .before .before .on .ensures) ∙ c .before .before .if2 .left) (c .before .before .before .before .before .before .before .before .before .pre .0 .0 _ (c .before .before .before .before .before .loop-test .taken) .0) (sym (c .before .both-on .ensures) ∙ c .if3 .taken))
+    (λ c. omega (arith, block-room _ _ _ _ _ _ _ (c .before .before .before .before .before .before .loop .inv) (c .before .before .before .before .before .loop-test .taken) (c .before .before .before .before .if1 .left) (c .before .before .before .before2 .ensures) (c .before .before .before .before .before .before .before .before .before .pre .1)))
     (λ c. search needs)
     (λ c. search needs)
-    (λ c. block-next _ _ _ _ _ _ _ (c .before .before .before .before .before .before .loop .inv) (c .before .before .before .before .before .loop-test .taken) (c .before .before .before .before .if1 .left) (c .before .before .before .if2 .left) (sym (c .before .before .before .before .before .before .before .on .ensures) ∙ c .before .before .if3 .left) (c .before .before .before .before .before .before .before .before .before .pre .0 .0 _ (c .before .before .before .before .before .loop-test .taken) .0) (sym (c .before .on2 .ensures) ∙ c .if4 .left))
+    (λ c. block-next _ _ _ _ _ _ _ (c .before .before .before .before .before .before .loop .inv) (c .before .before .before .before .before .loop-test .taken) (c .before .before .before .before .if1 .left) (c .before .before .before .before2 .ensures) (sym (c .before .before .before .before .before .before .before .on .ensures) ∙ c .before .before .if2 .left) (c .before .before .before .before .before .before .before .before .before .pre .0 .0 _ (c .before .before .before .before .before .loop-test .taken) .0) (sym (c .before .both-on .ensures) ∙ c .if3 .left))
     (λ c. testing-done (c .before .loop .inv) (c .loop-test .left)))
