@@ -1,4 +1,5 @@
 pub mod CoveredTests
+pub mod Sides
 pub mod SpaceTests
 pub mod ModelVariables
 pub mod UnitTests

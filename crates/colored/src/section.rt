@@ -9,9 +9,10 @@ use cells::rule::Rule;
 use cells::section::Ask;
 use truth::Tested;
 ghost use mathlib.Core.Path.{_≡_};
-ghost use mathlib.Core.Bool.{true, false};
+ghost use mathlib.Core.Bool.{true, false, cond};
 ghost use mathlib.Core.List.{_++_};
 ghost use Prim.Native.Nat.{_+_, _^_, _≤_, _<_};
+ghost use lib.Dec.{eqb};
 ghost use lib.ListN.{length};
 ghost use Rattle.lists.specs.Each.{each};
 ghost use Rattle.puzzles.specs.Puzzle as P;
@@ -70,7 +71,17 @@ fn test_line(
     }
 }
 
-// Of the cell of column x and row y.
+// The first on side 0, and else the second.
+fn pick(side: usize, first: usize, second: usize) -> usize
+    ensures { λ r. ⌜ r ≡ cond (eqb side 0) first second ⌝ }
+{
+    if side == 0 {
+        return first;
+    }
+    second
+}
+
+// Of the cell of column x and row y: its column, then its row. One call tests both, so that it is compiled in place.
 fn test_color(
     words: &[u32],
     table: &[u32],
@@ -93,11 +104,17 @@ fn test_color(
         return Tested::Fine(at + 2);
     }
     let row = width + y;
-    let column = test_line(words, table, x, y, ask, model, found, at);
-    let Tested::Fine(next) = column else {
-        return column;
-    };
-    test_line(words, table, row, x, ask, model, found, next)
+    let mut to = at;
+    for side in 0..2 {
+        let l = pick(side, x, row);
+        let t = pick(side, y, x);
+        let line = test_line(words, table, l, t, ask, model, found, to);
+        let Tested::Fine(next) = line else {
+            return line;
+        };
+        to = next;
+    }
+    Tested::Fine(to)
 }
 
 fn test_cell(
