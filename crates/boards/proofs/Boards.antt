@@ -131,17 +131,17 @@ module _ (z : Puzzle) {n : ℕ} (s : accepted n ≡ spaces z (accepted (cellsAt 
     meaning = spaces-pass _ ∙ rw ke
 
     pub columns-off : {a : Answer} {why : Refusal} → a ≡ Refused why → told a ≡ columnChecks K (z .columns) → told a ≡ meaningChecks z
-    columns-off {a} r e = handed-up r _ ∙ ap (λ (v : Verdict). andThen v (andThen (solvedChecks K (z .masks)) (accepted K))) e ∙ sym meaning
+    columns-off {a} r e = handed-up r e _ ∙ sym meaning
 
     module _ {k : ℕ} (c : accepted k ≡ columnChecks K (z .columns)) where
       pub cells-off : {a : Answer} {why : Refusal} → a ≡ Refused why → told a ≡ solvedChecks K (z .masks) → told a ≡ meaningChecks z
-      cells-off {a} r e = handed-up r _ ∙ ap (λ (v : Verdict). andThen v (accepted K)) e ∙ sym (meaning ∙ rw (← c))
+      cells-off {a} r e = handed-up r e (accepted K) ∙ sym (meaning ∙ rw (← c))
 
       pub meaning-done : {j : ℕ} → accepted j ≡ solvedChecks K (z .masks) → accepted K ≡ meaningChecks z
       meaning-done e = sym (meaning ∙ rw (← c, ← e))
 
 pub sections-off : (ws : List ℕ) {a : Answer} {why : Refusal} → a ≡ Refused why → told a ≡ sectionsOf (readPuzzle ws) → told a ≡ puzzleChecks ws
-sections-off ws r e = handed-up r _ ∙ ap (λ (v : Verdict). andThen v (meaningChecks (puzzle ws))) e
+sections-off ws r e = handed-up r e _
 
 pub sections-on : (ws : List ℕ) → Sectioned ws → {v : Verdict} → v ≡ meaningChecks (puzzle ws) → v ≡ puzzleChecks ws
 sections-on ws S e = e ∙ rw (← S)

@@ -18,7 +18,8 @@ use Rattle.refusals.specs.Outcome.{Answers}
 use Rattle.refusals.specs.declared.Refusal.{Refusal}
 use Rattle.refusals.specs.declared.Answer.{Answer}
 use Rattle.refusals.specs.declared.Answer.the-variants.{Accepted, Refused}
-use Rattle.refusals.proofs.Answering.{refuse-accepted, told-refused, told-accepted, called-accepted, called-refused}
+use Rattle.refusals.proofs.Answering.{refused-not, refuse-accepted, told-refused, told-accepted}
+use Rattle.refusals.proofs.Called.{refused-by, accepted-checks, accepted-wrote}
 use Rattle.lines.specs.Clue.{words, gap, minSpace, positions}
 use Rattle.lines.specs.Calls.{clueChecks, startsWords}
 use Rattle.lines.proofs.Checks.{proper-clue, size-within}
@@ -107,16 +108,16 @@ module _ (ws : List ℕ) (S : Sectioned ws) (l : ℕ) (h : l < lines (puzzle ws)
         pub lay-refused : {why : Refusal} → a ≡ Refused why → cells < minSpace gap (clueAt z l)
         lay-refused r = elim (decLt cells (minSpace gap (clueAt z l))) [
           | yes f ↦ f
-          | no f ↦ absurd (called-refused _ _ called tail-room r (minSpace gap (clueAt z l)) (sym (line-checks ∙ rw (le-ltb cells (minSpace gap (clueAt z l)) (omega arith)))))
+          | no f ↦ absurd (refused-not r (minSpace gap (clueAt z l)) (refused-by called r tail-room ∙ line-checks ∙ rw (le-ltb cells (minSpace gap (clueAt z l)) (omega arith))))
         ]
 
         module _ {used : ℕ} (r : a ≡ Accepted used) where
           pub lay-fits : minSpace gap (clueAt z l) ≤ cells
-          lay-fits = ltb-false _ _ (refuse-accepted (ltb cells (minSpace gap (clueAt z l))) _ _ _ (called-accepted _ _ called tail-room r .0 .1 ∙ line-checks) .0)
+          lay-fits = ltb-false _ _ (refuse-accepted (ltb cells (minSpace gap (clueAt z l))) _ _ _ (accepted-checks called r .1 ∙ line-checks) .0)
 
           pub lay-wrote : Wrote (lineWords z l) table (68 * l) (putMid to (length stored - to) stored tail) (to + used)
           unfolding lineWords
-          lay-wrote = rw (← P .at-is, ← P .first-is, ← ce) (wrote-then (omega (arith, room .low)) W (wrote-tail (called-accepted _ _ called tail-room r .1)))
+          lay-wrote = rw (← P .at-is, ← P .first-is, ← ce) (wrote-then (omega (arith, room .low)) W (wrote-tail (accepted-wrote called r)))
 
           pub lay-kept : length (putMid to (length stored - to) stored tail) ≡ length table
           lay-kept = wrote-kept (omega (arith, room, line-size z l)) lay-wrote
@@ -125,7 +126,7 @@ module _ (ws : List ℕ) (S : Sectioned ws) (l : ℕ) (h : l < lines (puzzle ws)
           pub lay-positions : getD (putMid to (length stored - to) stored tail) to 0 ≡ positionsAt z l
           lay-positions =
               ap (λ (k : ℕ). getD (putMid to (length stored - to) stored tail) k 0) (omega arith)
-              ∙ wrote-at {at = to} (omega (arith, W .next-is, room .low, stored-long)) (wrote-tail (called-accepted _ _ called tail-room r .1)) 0 0 (omega (arith, starts-size cells (clueAt z l)))
+              ∙ wrote-at {at = to} (omega (arith, W .next-is, room .low, stored-long)) (wrote-tail (accepted-wrote called r)) 0 0 (omega (arith, starts-size cells (clueAt z l)))
               ∙ starts-positions cells (clueAt z l)
               ∙ rw ce
 

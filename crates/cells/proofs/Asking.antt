@@ -6,7 +6,8 @@ use native.Mathlib.Omega.{arith}
 use lib.ListN.{length, take, drop, getD, length-append}
 use lib.IntN.{ℤ}
 use Rattle.lists.specs.Wrote.{Wrote}
-use Rattle.lists.proofs.Writing.{wrote-there, wrote-kept, wrote-then}
+use Rattle.lists.proofs.Fronts.{front-is}
+use Rattle.lists.proofs.Writing.{wrote-kept, wrote-then}
 use Rattle.literals.specs.Literals.{IsVariable}
 use Rattle.sections.specs.Sections.{Clause, clausesWords}
 use Rattle.sections.proofs.ClauseLists.{clauses-append}
@@ -55,8 +56,8 @@ module _ {ws table : List ℕ} {l from end : ℕ} (A : Located ws table l from e
     pub front-within : 64 ≤ length found → length found′ ≡ length found → n ≤ length found′
     front-within h e = omega (arith, front-few)
 
-    pub front-is : take n found′ ≡ covering (lineAt (puzzle ws) l) c t
-    front-is = let e : n ≡ length (covering (lineAt (puzzle ws) l) c t) = omega (arith, found-in .next-is) in rw e (wrote-there (omega arith) found-in)
+    pub found-is : take n found′ ≡ covering (lineAt (puzzle ws) l) c t
+    found-is = front-is found-in
 
 -- what a rule then writes
 module _ {ws table : List ℕ} {l : ℕ} (R : Ready ws table) (h : l < lines (puzzle ws)) (c t : ℕ) {us : List ℕ} (e : us ≡ covering (lineAt (puzzle ws) l) c t) where

@@ -1,7 +1,7 @@
 -- No clause of an accepted puzzle has more than 65 literals.
 use mathlib.Core.Path.{_≡_}
 use mathlib.Core.Bool.{Bool, true, false, not, cond}
-use mathlib.Core.List.{List, [], _∷_, _++_, map}
+use mathlib.Core.List.{List, [], _∷_, _++_, map, flatten}
 use Prim.Native.Nat.{ℕ, zero, suc, _+_, _-_, _≤_, _<_}
 use native.Mathlib.Omega.{arith}
 use native.Mathlib.Decide.{decLt}
@@ -29,7 +29,7 @@ use Rattle.cells.specs.Cells.{ofColor, byColumn, ofCells, pointOnce, precompute
 use Rattle.cells.specs.declared.rule.Rule as D
 use Rattle.cells.specs.declared.rule.Rule.the-variants.{Color, Space}
 use Rattle.cells.proofs.CoveringPositions.{covering-most}
-use Rattle.counts.specs.Families.{families, joined, clauses}
+use Rattle.counts.specs.Families.{families, clauses}
 
 -- each of them has at most 65 literals
 pub Short : List Clause → Type 0
@@ -119,7 +119,7 @@ module _ (z : Puzzle) where
   -- ---- all ten
 
   pub clauses-short : Good z → Short (clauses z)
-  unfolding families joined
+  unfolding families flatten
   clauses-short G =
       let side : (rule : Rule) (ds : List Clause) → Short ds → Short (ofColumns z rule ++ (ofRows z rule ++ ds)) = λ rule ds h.
       append-short _ _ (lines-short z G rule 0 (width z) (omega arith)) (append-short _ _ (lines-short z G rule (width z) (height z) (omega arith)) h) in

@@ -1,7 +1,7 @@
 -- The ten families together: how many literals and words they have, and that every count fits an i32.
 use mathlib.Core.Path.{_≡_, refl, sym, ap, _∙_}
 use mathlib.Core.Bool.{false}
-use mathlib.Core.List.{List, [], _∷_}
+use mathlib.Core.List.{List, [], _∷_, flatten}
 use Prim.Native.Nat.{ℕ, _+_, _-_, _*_, _/_, _≤_, _<_}
 use native.Mathlib.Omega.{arith}
 use native.Mathlib.Nat.{zero-add, mul-le-mul-right, mul-le-mul-left}
@@ -24,7 +24,7 @@ use Rattle.placement.specs.declared.rule.Rule.{Rule}
 use Rattle.placement.specs.declared.rule.Rule.the-variants.{Positions, Once, Overlap}
 use Rattle.cells.specs.Cells.{ofCells, pointOnce, precomputedCells}
 use Rattle.cells.specs.declared.rule.Rule.the-variants.{Color, Space}
-use Rattle.counts.specs.Families.{families, joined, clauses, buffer, countsOf}
+use Rattle.counts.specs.Families.{families, clauses, buffer, countsOf}
 use Rattle.counts.specs.Formulas.{overLines, unitsBy}
 use Rattle.counts.specs.Counted.{SideCounted, CellsCounted, Counted, numbers}
 use Rattle.counts.specs.declared.total.Side.{Side}
@@ -38,26 +38,26 @@ use Rattle.counts.proofs.UnitClauses.{hues-ones, hues-some, cells-units
 use Rattle.counts.proofs.Bounded.{most, most-most, lines-most, unit-most, point-most}
 
 -- the words of sections: their counts, their clauses' counts and their literals
-sections-length : (ss : List (List Clause)) → length (sectionsWords ss) ≡ length ss + length (joined ss) + literals (joined ss)
-unfolding sectionsWords joined literals
+sections-length : (ss : List (List Clause)) → length (sectionsWords ss) ≡ length ss + length (flatten ss) + literals (flatten ss)
+unfolding sectionsWords flatten literals
 sections-length [] = refl
 sections-length (s ∷ ss) =
-    omega (arith, length-append (sectionWords s) (sectionsWords ss), section-length s, sections-length ss, length-append s (joined ss), literals-append s (joined ss))
+    omega (arith, length-append (sectionWords s) (sectionsWords ss), section-length s, sections-length ss, length-append s (flatten ss), literals-append s (flatten ss))
 
 -- a number of each family, added up
 added : (List Clause → ℕ) → List (List Clause) → ℕ
 added f [] = 0
 added f (s ∷ ss) = f s + added f ss
 
-joined-length : (ss : List (List Clause)) → length (joined ss) ≡ added length ss
-unfolding joined added
+joined-length : (ss : List (List Clause)) → length (flatten ss) ≡ added length ss
+unfolding flatten added
 joined-length [] = refl
-joined-length (s ∷ ss) = omega (arith, length-append s (joined ss), joined-length ss)
+joined-length (s ∷ ss) = omega (arith, length-append s (flatten ss), joined-length ss)
 
-joined-literals : (ss : List (List Clause)) → literals (joined ss) ≡ added literals ss
-unfolding joined added literals
+joined-literals : (ss : List (List Clause)) → literals (flatten ss) ≡ added literals ss
+unfolding flatten added literals
 joined-literals [] = refl
-joined-literals (s ∷ ss) = omega (arith, literals-append s (joined ss), joined-literals ss)
+joined-literals (s ∷ ss) = omega (arith, literals-append s (flatten ss), joined-literals ss)
 
 module _ (z : Puzzle) where
   abbrev twos : ℕ

@@ -1,5 +1,5 @@
 -- Document 01's ten families in order, and what is counted of them.
-use mathlib.Core.List.{List, [], _∷_, _++_, map}
+use mathlib.Core.List.{List, [], _∷_, _++_, map, flatten}
 use Prim.Native.Nat.{ℕ, _+_}
 use lib.IntN.{ℤ}
 use lib.ListN.{length}
@@ -21,12 +21,8 @@ families z =
     ∷ precomputedCells z ∷ []
 
 -- all clauses, one family after another
-unfoldable pub joined : List (List Clause) → List Clause
-joined [] = []
-joined (s ∷ ss) = s ++ joined ss
-
 abbrev pub clauses : Puzzle → List Clause
-clauses z = joined (families z)
+clauses z = flatten (families z)
 
 -- the clause buffer
 abbrev pub buffer : Puzzle → List ℤ

@@ -1,6 +1,6 @@
 -- Words that are accepted: they are the words of sections with good literals, and the clauses that they hold are those.
 use mathlib.Core.Path.{_≡_, refl, sym, ap, _∙_}
-use mathlib.Core.List.{List, [], _∷_, append-nil}
+use mathlib.Core.List.{List, [], _∷_, append-nil, flatten}
 use Prim.Native.Nat.{ℕ, _≤_}
 use native.Mathlib.Omega.{arith}
 use native.Mathlib.Nat.{zero-add}
@@ -12,7 +12,7 @@ use Rattle.refusals.specs.Verdict.{accepted}
 use Rattle.refusals.proofs.Answering.{refuse-accepted}
 use Rattle.literals.proofs.Readings.{literal-is}
 use Rattle.sections.specs.Sections.{Clause, sectionsWords}
-use Rattle.dimacs.specs.Walk.{Walk, got, stop, times, readSection, walked, sectionsOf, wordChecks, together, clausesOf}
+use Rattle.dimacs.specs.Walk.{Walk, got, stop, times, readSection, walked, sectionsOf, wordChecks, clausesOf}
 use Rattle.dimacs.specs.Lines.{SectionFine, Formed, linesOf}
 use Rattle.dimacs.proofs.Readers.{Each, FineSection, section-reader, times-only, times-back}
 use Rattle.dimacs.proofs.Ahead.{lines-are}
@@ -73,6 +73,6 @@ module _ (v n : ℕ) (ss : List (List Clause)) (v-few : v ≤ 1000000) (n-few : 
   unfolding walked
   words-accepted = rw (le-ltb _ _ v-few, le-ltb _ _ n-few, le-ltb _ _ few, reads)
 
-  pub words-hold : clausesOf v n (sectionsWords ss) ≡ together ss
+  pub words-hold : clausesOf v n (sectionsWords ss) ≡ flatten ss
   unfolding sectionsOf
   words-hold = rw reads

@@ -1,7 +1,7 @@
 -- The second walk, over words among which none is wrong: what is ahead of it, and what a turn finds there.
 use mathlib.Core.Path.{_≡_, refl, sym, ap, _∙_}
 use mathlib.Core.Bool.{false}
-use mathlib.Core.List.{List, [], _∷_, _++_, append-assoc}
+use mathlib.Core.List.{List, [], _∷_, _++_, append-assoc, flatten}
 use Prim.Native.Nat.{ℕ, zero, suc, _+_, _-_, _≤_, _<_}
 use native.Mathlib.Omega.{arith}
 use lib.IntN.{ℤ, pos, natAbs}
@@ -10,7 +10,6 @@ use lib.Seq.{take-at, drop-at, drop-drop}
 use Rattle.lists.proofs.Dropping.{drop-one}
 use Rattle.literals.specs.Literals.{isNegative}
 use Rattle.sections.specs.Sections.{Clause, clauseWords, clausesWords, sectionWords, sectionsWords}
-use Rattle.dimacs.specs.Walk.{together}
 use Rattle.dimacs.specs.Lines.{AreVariables, SectionFine, Formed, linesFrom, linesOf}
 
 -- ---- the lines of sections' words are their clauses
@@ -31,8 +30,8 @@ none-ahead : aheadWords [] [] ≡ []
 unfolding clausesWords sectionsWords
 none-ahead = refl
 
-lines-ahead : (k : ℕ) (cs : List Clause) (ss : List (List Clause)) → length (aheadWords cs ss) ≤ k → linesFrom k (length cs) (aheadWords cs ss) ≡ cs ++ together ss
-unfolding linesFrom together
+lines-ahead : (k : ℕ) (cs : List Clause) (ss : List (List Clause)) → length (aheadWords cs ss) ≤ k → linesFrom k (length cs) (aheadWords cs ss) ≡ cs ++ flatten ss
+unfolding linesFrom flatten
 lines-ahead zero [] [] h = refl
 lines-ahead (suc k) [] [] h = rw none-ahead
 lines-ahead zero [] (s ∷ ss) h = absurd (omega (arith, ap length (next-section s ss)))
@@ -46,7 +45,7 @@ lines-ahead (suc k) (c ∷ cs) ss h =
       lines-ahead k cs ss (omega (arith, ap length (next-clause c cs ss), length-append c (aheadWords cs ss))),
     )
 
-pub lines-are : (ss : List (List Clause)) → linesOf (sectionsWords ss) ≡ together ss
+pub lines-are : (ss : List (List Clause)) → linesOf (sectionsWords ss) ≡ flatten ss
 unfolding linesOf clausesWords
 lines-are ss = lines-ahead (length (sectionsWords ss)) [] ss (omega arith)
 
@@ -58,7 +57,7 @@ pub record Ahead (ws : List ℤ) (i left : ℕ) (rest : List Clause) : Type 0 wh
   pub within : i ≤ length ws
   pub words-are : drop i ws ≡ aheadWords begun behind
   pub left-is : left ≡ length begun
-  pub rest-is : rest ≡ begun ++ together behind
+  pub rest-is : rest ≡ begun ++ flatten behind
   pub begun-fine : SectionFine begun
   pub behind-fine : (s : ℕ) → s < length behind → SectionFine (getD behind s [])
 
@@ -107,10 +106,10 @@ module _ {ws : List ℤ} {i left : ℕ} {rest : List Clause} (A : Ahead ws i lef
 
       -- of a section's clauses
       pub ahead-section : left ≡ 0 → Ahead ws (i + 1) n rest
-      unfolding together
+      unfolding flatten
       ahead-section o = go (A .begun) (A .behind) here (A .left-is) (A .rest-is) (A .behind-fine)
         where
-          go : (cs : List Clause) (ss : List (List Clause)) → getD ws i (pos 0) ∷ drop (i + 1) ws ≡ aheadWords cs ss → left ≡ length cs → rest ≡ cs ++ together ss
+          go : (cs : List Clause) (ss : List (List Clause)) → getD ws i (pos 0) ∷ drop (i + 1) ws ≡ aheadWords cs ss → left ≡ length cs → rest ≡ cs ++ flatten ss
               → ((s : ℕ) → s < length ss → SectionFine (getD ss s [])) → Ahead ws (i + 1) n rest
           go [] [] w l r f = absurd (omega (arith, ap length (w ∙ none-ahead)))
           go [] (s ∷ ss) w l r f =
@@ -132,7 +131,7 @@ module _ {ws : List ℤ} {i left : ℕ} {rest : List Clause} (A : Ahead ws i lef
       pub ahead-line : (left ≡ 0 → ⊥) → Line ws i left rest n
       ahead-line o = go (A .begun) here (A .left-is) (A .rest-is) (A .begun-fine)
         where
-          go : (cs : List Clause) → getD ws i (pos 0) ∷ drop (i + 1) ws ≡ aheadWords cs (A .behind) → left ≡ length cs → rest ≡ cs ++ together (A .behind) → SectionFine cs → Line ws i left rest n
+          go : (cs : List Clause) → getD ws i (pos 0) ∷ drop (i + 1) ws ≡ aheadWords cs (A .behind) → left ≡ length cs → rest ≡ cs ++ flatten (A .behind) → SectionFine cs → Line ws i left rest n
           go [] w l r f = absurd (o l)
           go (c ∷ cs) w l r f =
               let t = w ∙ next-clause c cs (A .behind) in
@@ -145,7 +144,7 @@ module _ {ws : List ℤ} {i left : ℕ} {rest : List Clause} (A : Ahead ws i lef
                 within = omega (arith, ap length d, length-append c (aheadWords cs (A .behind)), length-drop (i + 1) ws);
                 long = ap length p ∙ sym m;
                 fine = rw p (f 0 (omega arith));
-                more = cs ++ together (A .behind);
+                more = cs ++ flatten (A .behind);
                 rest-is = rw p r;
                 ahead = record {
                   begun = cs;
@@ -163,7 +162,7 @@ module _ {ws : List ℤ} {i left : ℕ} {rest : List Clause} (A : Ahead ws i lef
   pub ahead-done : length ws ≤ i → rest ≡ []
   ahead-done h = go (A .begun) (A .behind) (sym (drop-of-length-le ws h) ∙ A .words-are) (A .rest-is)
     where
-      go : (cs : List Clause) (ss : List (List Clause)) → [] ≡ aheadWords cs ss → rest ≡ cs ++ together ss → rest ≡ []
-      go [] [] w r = unfold together in r
+      go : (cs : List Clause) (ss : List (List Clause)) → [] ≡ aheadWords cs ss → rest ≡ cs ++ flatten ss → rest ≡ []
+      go [] [] w r = unfold flatten in r
       go [] (s ∷ ss) w r = absurd (omega (arith, ap length (w ∙ next-section s ss)))
       go (c ∷ cs) ss w r = absurd (omega (arith, ap length (w ∙ next-clause c cs ss)))

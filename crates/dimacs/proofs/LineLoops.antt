@@ -1,6 +1,6 @@
 -- The loops over all lines: how many and how long they are, and their text.
 use mathlib.Core.Path.{_≡_, refl, ap}
-use mathlib.Core.List.{List, [], _∷_, _++_, append-assoc}
+use mathlib.Core.List.{List, [], _∷_, _++_, append-assoc, flatten}
 use Prim.Native.Nat.{ℕ, suc, _+_, _-_, _*_, _≤_, _<_}
 use native.Mathlib.Omega.{arith}
 use lib.IntN.{ℤ, pos, natAbs}
@@ -9,7 +9,6 @@ use Rattle.lists.specs.Wrote.{Wrote}
 use Rattle.lists.proofs.Writing.{Filling, fill-first, fill-room, fill-next, fill-kept, fill-done}
 use Rattle.sections.specs.Sections.{Clause, clauseWords, clausesWords, sectionWords, sectionsWords}
 use Rattle.dimacs.specs.Text.{clauseText, clausesText}
-use Rattle.dimacs.specs.Walk.{together}
 use Rattle.dimacs.specs.Lines.{SectionFine, Formed, linesOf}
 use Rattle.dimacs.proofs.ClauseLines.{clause-most}
 use Rattle.dimacs.proofs.Ahead.{lines-are, Ahead, ahead-first, ahead-section, ahead-done, Line, lineAt}
@@ -30,14 +29,14 @@ section-most (c ∷ cs) f =
     (omega (arith, m .0, w), omega (arith, m .1, w, length-append (clauseText c) (clausesText cs), clause-most c (f 0 (omega arith))))
 
 sections-most : (ss : List (List Clause)) → ((s : ℕ) → s < length ss → SectionFine (getD ss s []))
-    → (length (together ss) ≤ length (sectionsWords ss)) × (length (clausesText (together ss)) ≤ 9 * length (sectionsWords ss))
-unfolding together sectionsWords sectionWords
+    → (length (flatten ss) ≤ length (sectionsWords ss)) × (length (clausesText (flatten ss)) ≤ 9 * length (sectionsWords ss))
+unfolding flatten sectionsWords sectionWords
 sections-most [] f = unfold clausesText in (omega arith, omega arith)
 sections-most (s ∷ ss) f =
     let m = sections-most ss (λ i h. f (suc i) (omega arith)) in
     let n = section-most s (f 0 (omega arith)) in
     let w = length-append (clausesWords s) (sectionsWords ss) in
-    (omega (arith, m .0, n .0, w, length-append s (together ss)), omega (arith, m .1, n .1, w, ap length (lines-append s (together ss)), length-append (clausesText s) (clausesText (together ss))))
+    (omega (arith, m .0, n .0, w, length-append s (flatten ss)), omega (arith, m .1, n .1, w, ap length (lines-append s (flatten ss)), length-append (clausesText s) (clausesText (flatten ss))))
 
 module _ {ws : List ℤ} (F : Formed ws) where
   pub lines-few : length (linesOf ws) ≤ 1073741824

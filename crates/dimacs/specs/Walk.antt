@@ -1,7 +1,7 @@
 -- Document 01, "DIMACS": clause words of any kind, read from the left. A section is its clause count and its clauses, a clause its literal count and its literals;
 -- counts are not negative, literals nonzero and within the variables. 22 at the first word that is wrong, at their number where one is missing.
 use mathlib.Core.Bool.{Bool, cond}
-use mathlib.Core.List.{List, [], _∷_, _++_}
+use mathlib.Core.List.{List, [], _∷_, _++_, flatten}
 use Prim.Native.Nat.{ℕ, zero, suc, _+_}
 use lib.IntN.{ℤ, natAbs}
 use lib.Dec.{ltb}
@@ -65,9 +65,5 @@ wordChecks v n ws =
     (walked (times n (readSection v) 0 ws))))
 
 -- all clauses that they hold, one section after another
-unfoldable pub together : List (List Clause) → List Clause
-together [] = []
-together (s ∷ ss) = s ++ together ss
-
 abbrev pub clausesOf : ℕ → ℕ → List ℤ → List Clause
-clausesOf v n ws = together (sectionsOf (times n (readSection v) 0 ws))
+clausesOf v n ws = flatten (sectionsOf (times n (readSection v) 0 ws))

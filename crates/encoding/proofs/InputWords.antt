@@ -10,7 +10,7 @@ use Rattle.lists.proofs.Emitting.{Emitting, emit-first, emit-room, emit-next, e
 use Rattle.lists.proofs.Writing.{wrote-store}
 use Rattle.lists.specs.Each.{each, tab}
 use Rattle.encoding.specs.Encode.{wordsOf}
-use Rattle.encoding.proofs.Fronts.{front-size}
+use Rattle.lists.proofs.Fronts.{front-size}
 
 -- what turn i writes
 abbrev pub wordAt : List ℕ → ℕ → List ℕ

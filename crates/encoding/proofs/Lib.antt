@@ -1,5 +1,3 @@
-pub mod Fronts
-pub mod Called
 pub mod ClauseVariables
 pub mod InputWords
 pub mod RefusedLine

@@ -19,13 +19,13 @@ use Rattle.puzzles.specs.Checks.{puzzle, puzzleChecks}
 use Rattle.counts.specs.Families.{buffer}
 use Rattle.encoding.specs.Encode.{wordsOf, inputChecks, textOf, programChecks, refusedText, told, encoded}
 use Rattle.encoding.specs.Steps.{wordsChecks, bytesChecks}
-use Rattle.encoding.proofs.Called.{refused-kept, accepted-room, accepted-wrote}
+use Rattle.refusals.proofs.Called.{refused-kept, accepted-room, accepted-wrote}
 
 -- ---- the bytes
 
 module _ (bytes : List ℕ) where
   pub input-refused : {a : Answer} {why : Refusal} → a ≡ Refused why → R.told a ≡ inputChecks bytes → R.told a ≡ bytesChecks bytes
-  input-refused r e = handed-up r (wordsChecks (wordsOf bytes)) ∙ ap (λ v. andThen v (wordsChecks (wordsOf bytes))) e
+  input-refused r e = handed-up r e _
 
   module _ {a : Answer} {n : ℕ} (r : a ≡ Accepted n) (e : R.told a ≡ inputChecks bytes) where
     input-accepted : accepted n ≡ inputChecks bytes

@@ -63,7 +63,7 @@ module _ {w h : ℕ} {grid : List ℕ} {n : ℕ} where
 module _ (w h : ℕ) (grid : List ℕ) where
   pub size-handed : {a : Answer} {why : Refusal} → a ≡ Refused why → told a ≡ sizeChecks w h grid → told a ≡ gridChecks w h grid
   unfolding gridChecks
-  size-handed r e = rw (← e) (handed-up r _)
+  size-handed r e = handed-up r e _
 
   pub size-passed : {n : ℕ} → accepted n ≡ sizeChecks w h grid → byteChecks grid ≡ gridChecks w h grid
   unfolding gridChecks

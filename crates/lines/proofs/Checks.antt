@@ -41,7 +41,7 @@ module _ (n : ℕ) (clue : List ℕ) where
       module _ (h : length clue / 2 ≤ 64) where
         pub block-refused : {a : Answer} {why : Refusal} → a ≡ Refused why → told a ≡ blockChecks 0 clue → told a ≡ clueChecks n clue
         unfolding clueChecks
-        block-refused r b = rw (s, ne-eqb _ _ e, le-ltb _ _ h, ← b) (handed-up r _)
+        block-refused r b = rw (s, ne-eqb _ _ e, le-ltb _ _ h) (handed-up r b _)
 
         module _ {k : ℕ} (b : accepted k ≡ blockChecks 0 clue) {space : ℕ} (m : space ≡ minSpace gap (blocks clue)) where
           pub short-refused : n < space → refused 6 0 ≡ clueChecks n clue

@@ -1,10 +1,11 @@
 -- The laws of `each`.
 use mathlib.Core.Path.{_≡_, refl, sym, ap, _∙_}
-use mathlib.Core.List.{List, [], _++_, append-assoc, append-nil}
+use mathlib.Core.List.{List, [], _∷_, _++_, append-assoc, append-nil, flatMap}
 use Prim.Native.Nat.{ℕ, zero, suc, _+_, _-_, _*_, _≤_, _<_}
 use native.Mathlib.Omega.{arith}
 use native.Mathlib.Nat.{add-zero, add-suc, zero-mul, suc-mul}
 use native.Mathlib.Decide.{ℕ-discrete}
+use native.Mathlib.Numerals.{one-add}
 use lib.ListN.{length, getD, length-append, List·getD-append}
 use lib.Seq.{getD-at}
 use Rattle.lists.specs.Each.{each, tab}
@@ -42,6 +43,18 @@ module _ {A : Type 0} where
   rest-done i n f h =
       let e : n - i ≡ 0 = omega arith in
       rw e
+
+  -- the first turn, and the others
+  each-front : (n : ℕ) (f : ℕ → List A) → each (suc n) f ≡ f 0 ++ each n (λ k. f (suc k))
+  unfolding each
+  each-front n f =
+      ap (λ (m : ℕ). each m f) (sym (one-add n)) ∙ each-plus 1 n f ∙ ap (λ (l : List A). f 0 ++ l) (each-same n (λ k. f (1 + k)) (λ k. f (suc k)) (λ k h. ap f (one-add k)))
+
+  -- a part for each element of a list
+  pub flat-each : {B : Type 0} (d : B) (f : B → List A) (l : List B) → flatMap f l ≡ each (length l) (λ k. f (getD l k d))
+  unfolding flatMap
+  flat-each d f [] = unfold each in refl
+  flat-each d f (b ∷ l) = rw (flat-each d f l) (sym (each-front (length l) (λ k. f (getD (b ∷ l) k d))))
 
   -- ---- lengths
 

@@ -4,4 +4,5 @@ pub mod Emitting
 pub mod Parts
 pub mod Tests
 pub mod Writing
+pub mod Fronts
 pub mod Sums

@@ -7,11 +7,11 @@ use native.Mathlib.Nat.{mul-le-mul-right}
 use lib.ListN.{length}
 use borrow.Author.Tests.{eq-eqb, ne-eqb}
 use Rattle.refusals.specs.Verdict.{Verdict, refused, andThen}
-use Rattle.refusals.specs.Told.{refusal, told}
+use Rattle.refusals.specs.Told.{told}
 use Rattle.refusals.specs.declared.Refusal.{Refusal}
 use Rattle.refusals.specs.declared.Answer.{Answer}
 use Rattle.refusals.specs.declared.Answer.the-variants.{Accepted, Refused}
-use Rattle.refusals.proofs.Answering.{handed-up}
+use Rattle.refusals.proofs.Answering.{handed-up, goes-on}
 use Rattle.truth.specs.Truth.{value}
 use Rattle.truth.specs.Tested.{tested}
 use Rattle.puzzles.specs.Puzzle.{Puzzle, width, height}
@@ -23,14 +23,6 @@ use Rattle.cells.specs.Given.{Given}
 use Rattle.cells.proofs.BoardCells.{given-shows}
 use Rattle.counts.specs.Families.{clauses}
 use Rattle.models.specs.Models.{byteChecks, cellChecks, modelChecks}
-
--- a refusal of the puzzle is handed up unchanged
-pub puzzle-refused : (why : Refusal) {u : Verdict} → refusal why ≡ u → (v : Verdict) → refusal why ≡ andThen u v
-puzzle-refused why {u} e v = handed-up {a = Refused why} refl v ∙ rw e
-
--- an acceptance goes on to what follows
-pub goes-on : {a : Answer} {n : ℕ} → a ≡ Accepted n → {v : Verdict} → told a ≡ v → (w : Verdict) → w ≡ andThen v w
-goes-on {a} {n} d e w = rw (← e, d)
 
 module _ {ws table : List ℕ} {board : Board} {colors : List ℕ} (G : Given ws table board colors) where
   abbrev z : Puzzle
@@ -81,12 +73,12 @@ module _ {ws table : List ℕ} {board : Board} {colors : List ℕ} (G : Given ws
 
       -- 14
       pub bytes-refused : (a : Answer) {why : Refusal} → a ≡ Refused why → told a ≡ byteChecks model → told a ≡ modelChecks z model
-      bytes-refused a d e = rw (own-length, ← e) (handed-up d _)
+      bytes-refused a d e = handed-up d e _ ∙ sym own-length
 
       module _ (a : Answer) {n : ℕ} (d : a ≡ Accepted n) (e : told a ≡ byteChecks model) where
         -- 15
         pub clauses-refused : (b : Answer) {why : Refusal} → b ≡ Refused why → told b ≡ tested (value model) 0 (clauses z) → told b ≡ modelChecks z model
-        clauses-refused b q f = rw (own-length, ← goes-on d e _, ← f) (handed-up q _)
+        clauses-refused b q f = handed-up q f _ ∙ goes-on d e _ ∙ sym own-length
 
         -- 16
         pub cells-tell : (b : Answer) {m : ℕ} → b ≡ Accepted m → told b ≡ tested (value model) 0 (clauses z)

@@ -7,6 +7,7 @@ use colored::section::test_cells;
 use placed::section::test_lines;
 use placement::rule::Rule;
 use truth::Tested;
+ghost use mathlib.Core.List.{flatten};
 ghost use mathlib.Core.Path.{_≡_};
 ghost use lib.ListN.{length};
 ghost use Rattle.truth.specs.Truth.{value};
@@ -16,7 +17,7 @@ ghost use Rattle.boards.specs.Reading.{Stands};
 ghost use Rattle.numbering.specs.Variables.{variables};
 ghost use Rattle.numbering.specs.Tables.{Ready};
 ghost use Rattle.cells.specs.Given.{Given};
-ghost use Rattle.counts.specs.Families.{joined, clauses};
+ghost use Rattle.counts.specs.Families.{clauses};
 ghost use Rattle.clauses.specs.Groups.{both, lineSections, cellSections};
 
 // What a rule says of the columns, then of the rows.
@@ -29,8 +30,8 @@ fn test_both(
     at: usize,
 ) -> Tested
     requires { ⌜ Ready (now words) (now table) × Stands board (puzzle (now words)) × (length (now model) ≡ variables (puzzle (now words))) ⌝ }
-    requires { ⌜ Countable at (joined (both (puzzle (now words)) rule)) ⌝ }
-    ensures { λ r. ⌜ said r ≡ tested (value (now (model .entry))) at (joined (both (puzzle (now (words .entry))) rule)) ⌝ }
+    requires { ⌜ Countable at (flatten (both (puzzle (now words)) rule)) ⌝ }
+    ensures { λ r. ⌜ said r ≡ tested (value (now (model .entry))) at (flatten (both (puzzle (now (words .entry))) rule)) ⌝ }
 {
     let w = board.width;
     let h = board.height;
@@ -44,8 +45,8 @@ fn test_both(
 // Sections 1 to 6.
 fn test_line_sections(words: &[u32], table: &[u32], board: Board, model: &[u8], at: usize) -> Tested
     requires { ⌜ Ready (now words) (now table) × Stands board (puzzle (now words)) × (length (now model) ≡ variables (puzzle (now words))) ⌝ }
-    requires { ⌜ Countable at (joined (lineSections (puzzle (now words)))) ⌝ }
-    ensures { λ r. ⌜ said r ≡ tested (value (now (model .entry))) at (joined (lineSections (puzzle (now (words .entry))))) ⌝ }
+    requires { ⌜ Countable at (flatten (lineSections (puzzle (now words)))) ⌝ }
+    ensures { λ r. ⌜ said r ≡ tested (value (now (model .entry))) at (flatten (lineSections (puzzle (now (words .entry))))) ⌝ }
 {
     let some = test_both(Rule::Positions, words, table, board, model, at);
     let Tested::Fine(third) = some else {
@@ -68,8 +69,8 @@ fn test_cell_sections(
     at: usize,
 ) -> Tested
     requires { ⌜ Given (now words) (now table) board (now colors) × (length (now model) ≡ variables (puzzle (now words))) ⌝ }
-    requires { ⌜ Countable at (joined (cellSections (puzzle (now words)))) ⌝ }
-    ensures { λ r. ⌜ said r ≡ tested (value (now (model .entry))) at (joined (cellSections (puzzle (now (words .entry))))) ⌝ }
+    requires { ⌜ Countable at (flatten (cellSections (puzzle (now words)))) ⌝ }
+    ensures { λ r. ⌜ said r ≡ tested (value (now (model .entry))) at (flatten (cellSections (puzzle (now (words .entry))))) ⌝ }
 {
     let color = test_cells(Cover::Color, words, table, board, colors, model, at);
     let Tested::Fine(eighth) = color else {

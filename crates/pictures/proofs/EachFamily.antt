@@ -2,7 +2,7 @@
 use mathlib.Core.Path.{_≡_, refl, ap}
 use mathlib.Core.Logic.{_↔_, Iff·trans}
 use mathlib.Core.Bool.{true, not}
-use mathlib.Core.List.{List, [], _∷_, map}
+use mathlib.Core.List.{List, [], _∷_, map, flatten}
 use Prim.Native.Nat.{ℕ, _+_, _<_}
 use native.Mathlib.Omega.{arith}
 use lib.Dec.{eqb}
@@ -26,7 +26,7 @@ use Rattle.cells.specs.Cells.{covering, ofColor, byColumn, ofCells, pointOnce, 
 use Rattle.cells.specs.declared.rule.Rule as D
 use Rattle.cells.specs.declared.rule.Rule.the-variants.{Color, Space}
 use Rattle.cells.proofs.CoveringPositions.{map-turns, map-when}
-use Rattle.counts.specs.Families.{families, joined, clauses}
+use Rattle.counts.specs.Families.{families, clauses}
 use Rattle.truth.specs.Truth.{Assignment, Satisfies}
 use Rattle.pictures.specs.Meaning.{SomePosition, OnePosition, NoConflict, Covers, IsCovered, IsColored, EachColumn, EachRow, EachCell, OneColor, MaskSays, Units, Meanings}
 use Rattle.pictures.proofs.TrueClauses.{Holds, none-means, one-means, append-means, cond-means, when-means, each-means, tab-means, pairs-means, product-means, some-when-means, some-each-means, yes-means, no-means, if-means, if-last-means, not-both-means, least-means, most-means}
@@ -175,7 +175,7 @@ pub record Said (z : Puzzle) (β : Assignment) : Type 0 where
   pub units : Units z β
 
 pub solved-said : (z : Puzzle) (β : Assignment) → Satisfies β (clauses z) ↔ Said z β
-unfolding families joined
+unfolding families flatten
 solved-said z β =
     let S = meanings z β in
     Iff·trans (append-means β _ _ (S .one) (append-means β _ _ (S .two) (append-means β _ _ (S .three) (append-means β _ _ (S .four) (append-means β _ _ (S .five) (append-means β _ _ (S .six)

@@ -1,6 +1,6 @@
 -- Small puzzles: their words are accepted and have pictures, P11 two.
 use mathlib.Core.Path.{refl, ap, subst}
-use mathlib.Core.List.{List}
+use mathlib.Core.List.{List, flatten}
 use Prim.Native.Nat.{ℕ}
 use native.Mathlib.Omega.{arith}
 use Rattle.lists.specs.Each.{each, tab, pairs, product}
@@ -20,7 +20,7 @@ use Rattle.placement.specs.Placement as Placement
 use Rattle.placement.specs.Placement.{blockPositions, blockOnce, nonOverlap, ofLines}
 use Rattle.cells.specs.Cells as Cells
 use Rattle.cells.specs.Cells.{covering, ofColor, byColumn, precomputed, precomputedCells}
-use Rattle.counts.specs.Families.{families, joined}
+use Rattle.counts.specs.Families.{families}
 use Rattle.grids.specs.Grid.{row, column, sizeChecks, gridChecks, rowClues, columnClues, gridPuzzle, gridWords}
 use Rattle.truth.specs.Truth.{literalTrue, clauseTrue, allTrue}
 use Rattle.pictures.specs.Pictures.{Grid, permits, obeys, Picture, colorOf, shown, blocking}
@@ -35,7 +35,7 @@ unfolding
     clueWords cluesWords linesWords cellsWords puzzleWords clueAt lengthAt withColors withLines colorSet known solved offSolved
     times counted readBlock readMask readPuzzle spaces meaningChecks sectionsOf puzzleOf
     firstAt lineAt palette cellFirst variables atLeastOne atMostOne clauseWords clausesWords sectionWords sectionsWords
-    blockPositions blockOnce nonOverlap Placement.ruled ofLines covering Cells.ruled ofColor byColumn precomputed precomputedCells families joined
+    blockPositions blockOnce nonOverlap Placement.ruled ofLines covering Cells.ruled ofColor byColumn precomputed precomputedCells families flatten
     row column sizeChecks gridChecks rowClues columnClues gridPuzzle gridWords
     literalTrue clauseTrue allTrue permits obeys colorOf shown blocking
 computed = record {

@@ -7,11 +7,7 @@ use lib.IntN.{ℤ}
 use lib.ListN.{length}
 use Rattle.refusals.specs.Verdict.{Verdict, accepted, refused, andThen}
 use Rattle.refusals.specs.Outcome.{Answers}
-use Rattle.refusals.specs.Told.{refusal}
 use Rattle.refusals.specs.declared.Answer.{Answer}
-use Rattle.refusals.specs.declared.Answer.the-variants.{Refused}
-use Rattle.refusals.specs.declared.Refusal.{Refusal}
-use Rattle.refusals.proofs.Answering.{answers-refused, handed-up}
 use Rattle.sections.specs.Sections.{Clause, clausesWords, sectionWords}
 use Rattle.puzzles.specs.Puzzle.{Puzzle, width, height}
 use Rattle.puzzles.specs.Checks.{colors, puzzle, puzzleChecks}
@@ -28,10 +24,6 @@ use Rattle.probes.proofs.ProbeClauses.{probes-are}
 pub section-needs : (cs : List Clause) {n : ℕ} → n ≡ length (clausesWords cs) → 1 + n ≡ length (sectionWords cs)
 unfolding sectionWords
 section-needs cs e = omega arith
-
--- the puzzle is refused
-pub answers-puzzle : {A : Type 0} (ws out : List A) {why : Refusal} {checks : Verdict} (v : Verdict) → refusal why ≡ checks → Answers (andThen checks v) ws out (Refused why) out
-answers-puzzle ws out {why} v e = answers-refused ws out refl (handed-up {why = why} refl v ∙ ap (λ (u : Verdict). andThen u v) e)
 
 -- what would be written matters only where the checks accept
 answers-same : {A : Type 0} {ws us out out′ : List A} {a : Answer} (v : Verdict) → ((n : ℕ) → accepted n ≡ v → ws ≡ us) → Answers v ws out a out′ → Answers v us out a out′

@@ -1,7 +1,6 @@
 pub mod ProbeReaders
 pub mod ProbeWalk
 pub mod AcceptedProbes
-pub mod JoinedLists
 pub mod ProbesMeaning
 pub mod ProbePlaces
 pub mod ProbeSizes

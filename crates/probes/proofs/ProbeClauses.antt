@@ -1,16 +1,16 @@
 -- The clauses of probes, as they are written by a board and by words: those that document 01 defines.
 use mathlib.Core.Path.{_≡_, refl, ap, _∙_}
-use mathlib.Core.List.{List, map}
+use mathlib.Core.List.{List, flatMap}
 use Prim.Native.Nat.{ℕ, _+_, _-_, _*_, _/_, _≤_}
 use native.Mathlib.Omega.{arith}
-use native.Mathlib.Nat.{zero-add}
 use lib.IntN.{ℤ}
 use lib.ListN.{length, take, drop, getD}
 use Rattle.lists.specs.Each.{each}
 use Rattle.lists.specs.Wrote.{Wrote}
-use Rattle.lists.proofs.Eaches.{each-same}
+use Rattle.lists.proofs.Eaches.{each-same, flat-each}
+use Rattle.lists.proofs.Fronts.{front-is}
 use Rattle.lists.proofs.Emitting.{Emitting}
-use Rattle.lists.proofs.Writing.{wrote-there, tail-is}
+use Rattle.lists.proofs.Writing.{tail-is}
 use Rattle.sections.specs.Sections.{Clause, clausesWords}
 use Rattle.sections.proofs.ClauseLists.{say-first, say-done}
 use Rattle.puzzles.specs.Puzzle.{Puzzle, width, height}
@@ -19,20 +19,14 @@ use Rattle.boards.specs.declared.board.Board.{Board}
 use Rattle.numbering.specs.Variables.{palette}
 use Rattle.cells.specs.Given.{Shows}
 use Rattle.cells.proofs.BoardCells.{cell-is}
-use Rattle.counts.specs.Families.{joined}
 use Rattle.probes.specs.Probes.{Probe, probes}
 use Rattle.probes.specs.Words.{claimAt, probeWords}
 use Rattle.probes.specs.Implications.{premiseOf, implication, implications}
 use Rattle.probes.specs.ByWords.{firstOf, premiseIn, impactIn, ofImpacts, ofProbe, ofProbes, wordsAt}
 use Rattle.probes.proofs.ProbeReaders.{noClaim, noProbe}
 use Rattle.probes.proofs.AcceptedProbes.{Accepted}
-use Rattle.probes.proofs.JoinedLists.{joined-each}
 use Rattle.probes.proofs.ProbeSizes.{premise-most}
 use Rattle.probes.proofs.ProbePlaces.{claims-many, claims-at, first-is, part-at}
-
--- what was written at the front, `&out[..n]`
-pub front-is : {A : Type 0} {ws out out₁ : List A} {n : ℕ} → Wrote ws out 0 out₁ n → take n out₁ ≡ ws
-front-is {A} {ws} w = rw (w .next-is ∙ zero-add (length ws)) (wrote-there (omega arith) w)
 
 -- ---- the impacts of a probe, one after another
 
@@ -73,12 +67,12 @@ module _ {b : Board} {z : Puzzle} (S : Shows b (length (palette (colors z))) z) 
   abbrev cs : List ℕ
   cs = palette (colors z)
 
-  probe-is : (p : Probe) → ofProbe b cs (probeWords p) ≡ joined (map (implication z (p .premise)) (p .impacts))
+  probe-is : (p : Probe) → ofProbe b cs (probeWords p) ≡ flatMap (implication z (p .premise)) (p .impacts)
   unfolding ofProbe ofImpacts probeWords implication
   probe-is p =
       let qs = p .impacts in
       let q = p .premise in
-      rw (claims-many qs, joined-each noClaim (implication z q) qs)
+      rw (claims-many qs, flat-each noClaim (implication z q) qs)
       (each-same (length qs) _ _ (λ j h.
       ap (impactIn b cs (premiseIn b cs q)) (claims-at qs j h) ∙ rw (cell-is S (getD qs j noClaim .x) (getD qs j noClaim .y), cell-is S (q .x) (q .y))))
 
@@ -86,5 +80,5 @@ module _ {b : Board} {z : Puzzle} (S : Shows b (length (palette (colors z))) z) 
   unfolding ofProbes implications
   probes-are us A =
       let ps = probes z us in
-      rw (first-is A .1, joined-each noProbe (λ p. joined (map (implication z (p .premise)) (p .impacts))) ps)
+      rw (first-is A .1, flat-each noProbe (λ p. flatMap (implication z (p .premise)) (p .impacts)) ps)
       (each-same (length ps) _ _ (λ k h. let P = part-at A k (rw (first-is A .1) h) in rw (P .words-are, P .probe-is) (probe-is (getD ps k noProbe))))

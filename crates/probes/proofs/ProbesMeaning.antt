@@ -2,7 +2,7 @@
 use mathlib.Core.Path.{_≡_, sym, _∙_}
 use mathlib.Core.Logic.{_↔_, Iff·trans, _⊎_, inl, inr}
 use mathlib.Core.Bool.{true, false, false≢true}
-use mathlib.Core.List.{List, [], _∷_, _++_, map}
+use mathlib.Core.List.{List, [], _∷_, _++_, map, flatMap}
 use Prim.Native.Nat.{ℕ, _+_, _*_, _<_}
 use native.Mathlib.Omega.{arith}
 use native.Mathlib.Decide.{ℕ-discrete}
@@ -17,7 +17,6 @@ use Rattle.puzzles.specs.Good.{Good}
 use Rattle.puzzles.proofs.Accepting.{accepted-is}
 use Rattle.numbering.specs.Variables.{palette, hues, hue, cellFirst}
 use Rattle.numbering.proofs.Bounds.{cell-least}
-use Rattle.counts.specs.Families.{joined}
 use Rattle.grids.proofs.Cells.{cell-within}
 use Rattle.pictures.specs.Pictures.{IsColor, Grid, Extends}
 use Rattle.pictures.proofs.TrueClauses.{Holds, none-means, one-means, each-means, either-means, some-when-means, some-each-means, yes-means, no-means, least-means}
@@ -27,7 +26,7 @@ use Rattle.probes.specs.Implications.{premiseOf, implied, impactOf, impl
 use Rattle.probes.specs.Meaning.{HoldsOf, Implies, ProbesMean}
 use Rattle.probes.proofs.ProbeReaders.{FineClaim, FineProbe, noClaim, noProbe}
 use Rattle.probes.proofs.AcceptedProbes.{accepted-probes}
-use Rattle.probes.proofs.JoinedLists.{joined-each}
+use Rattle.lists.proofs.Eaches.{flat-each}
 
 -- where A holds, colour c says of the r-th colour: blank, its variable is false; that colour, it is true
 abbrev Says : Puzzle → Assignment → ℕ → Type 0 → ℕ → ℕ → Type 0
@@ -130,9 +129,9 @@ module _ (z : Puzzle) (β : Assignment) where
         (elim (ℕ-discrete (colorOf p) (p .color)) [ yes e ↦ inr e | no e ↦ inl e ])
         (q .color)
 
-    probe-means : (p : Probe) → FineProbe (width z) (height z) (colors z) p → Satisfies β (joined (map (implication z (p .premise)) (p .impacts))) ↔ Implies z grid p
+    probe-means : (p : Probe) → FineProbe (width z) (height z) (colors z) p → Satisfies β (flatMap (implication z (p .premise)) (p .impacts)) ↔ Implies z grid p
     probe-means p F =
-        rw (joined-each noClaim (implication z (p .premise)) (p .impacts))
+        rw (flat-each noClaim (implication z (p .premise)) (p .impacts))
         (Iff·trans (each-means β (length (p .impacts)) _ (λ j h. implication-means (p .premise) (getD (p .impacts) j noClaim) (F .premise) (F .known) (F .impacts j h)))
         (λ k a j h. k j h a, λ k j h a. k a j h))
 
@@ -141,5 +140,5 @@ unfolding implications
 probes-mean ws us n m e f grid full β extends =
     let z = puzzle ws in
     let ps = probes z us in
-    rw (joined-each noProbe (λ p. joined (map (implication z (p .premise)) (p .impacts))) ps)
+    rw (flat-each noProbe (λ p. flatMap (implication z (p .premise)) (p .impacts)) ps)
     (each-means β (length ps) _ (λ i h. probe-means z β (accepted-is ws e .good) grid full extends (getD ps i noProbe) (accepted-probes (width z) (height z) (colors z) us f .fine i h)))

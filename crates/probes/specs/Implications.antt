@@ -1,6 +1,6 @@
 -- Document 01: the clauses of probes, one section.
 use mathlib.Core.Bool.{cond}
-use mathlib.Core.List.{List, [], _∷_, _++_, map}
+use mathlib.Core.List.{List, [], _∷_, _++_, map, flatMap}
 use Prim.Native.Nat.{ℕ, _+_}
 use lib.IntN.{ℤ}
 use lib.Dec.{eqb}
@@ -11,7 +11,6 @@ use Rattle.sections.specs.Sections.{Clause, atLeastOne}
 use Rattle.puzzles.specs.Puzzle.{Puzzle}
 use Rattle.puzzles.specs.Checks.{colors}
 use Rattle.numbering.specs.Variables.{palette, cellFirst}
-use Rattle.counts.specs.Families.{joined}
 use Rattle.probes.specs.Probes.{Claim, Probe}
 
 -- ---- of a cell whose variables begin at v, one for each colour of cs
@@ -38,4 +37,4 @@ implication z p q =
 
 -- per probe, per impact
 unfoldable pub implications : Puzzle → List Probe → List Clause
-implications z ps = joined (map (λ p. joined (map (implication z (p .premise)) (p .impacts))) ps)
+implications z ps = flatMap (λ p. flatMap (implication z (p .premise)) (p .impacts)) ps

@@ -46,8 +46,12 @@ pub refused-told : {a : Answer} {why : Refusal} → a ≡ Refused why → told a
 refused-told {a} {why} r = ap told r ∙ refusal-is why
 
 -- a refusal goes up unchanged
-pub handed-up : {a : Answer} {why : Refusal} → a ≡ Refused why → (v : Verdict) → told a ≡ andThen (told a) v
-handed-up {a} {why} e v = rw (e, refusal-is why)
+pub handed-up : {a : Answer} {why : Refusal} → a ≡ Refused why → {u : Verdict} → told a ≡ u → (v : Verdict) → told a ≡ andThen u v
+handed-up {a} {why} r e v = rw (← e, r, refusal-is why)
+
+-- and an acceptance goes on to what follows
+pub goes-on : {a : Answer} {n : ℕ} → a ≡ Accepted n → {u : Verdict} → told a ≡ u → (v : Verdict) → v ≡ andThen u v
+goes-on r e v = rw (← e, r)
 
 -- a refusal is no acceptance
 pub refused-not : {a : Answer} {why : Refusal} → a ≡ Refused why → (n : ℕ) → told a ≡ accepted n → ⊥
@@ -99,25 +103,6 @@ module _ {A : Type 0} (ws out : List A) {checks : Verdict} where
     pub answers-checked : {m : ℕ} {a : Answer} {out′ : List A} → Answers (accepted m) ws out a out′ → Answers checks ws out a out′
     answers-checked x = record { answer-is = rw (← e) (x .answer-is); out-is = rw (← e) (x .out-is) }
 
-  -- and what its caller knows, where there was room
-  module _ {a : Answer} {out′ : List A} (given : Answers checks ws out a out′) (room : length ws ≤ length out) where
-    pub called-accepted : {used : ℕ} → a ≡ Accepted used → ((n : ℕ) × (accepted n ≡ checks)) × Wrote ws out 0 out′ used
-    unfolding over
-    called-accepted {used} r = go checks (ap told (sym r) ∙ given .answer-is) (given .out-is)
-      where
-        go : (v : Verdict) → accepted used ≡ verdict v ws out → out′ ≡ kept (verdict v ws out) ws out → ((n : ℕ) × (accepted n ≡ v)) × Wrote ws out 0 out′ used
-        go (accepted n) e f =
-            let u : accepted used ≡ accepted (length ws) = e ∙ rw (le-ltb _ _ room) in
-            let used-is : used ≡ length ws = cc in
-            ((n, refl), record { next-is = used-is ∙ sym (zero-add (length ws)); left = (rw (le-ltb _ _ room) at f) ∙ rw used-is })
-        go (refused k p) e f = let z : _≡_ {A = ℕ} 0 1 = cc in absurd (omega arith)
-
-    pub called-refused : {why : Refusal} → a ≡ Refused why → (n : ℕ) → accepted n ≡ checks → ⊥
-    called-refused {why} r n e =
-        let u : refused (number (refusal why)) (place (refusal why)) ≡ accepted (length ws) = sym (refused-told r) ∙ given .answer-is ∙ rw (← e, le-ltb _ _ room) in
-        let z : _≡_ {A = ℕ} 0 1 = cc in
-        omega arith
-
   pub outcome-of : {answer : Answer} {out′ : List A} → Answers checks ws out answer out′ → {n p : ℕ} → n ≡ number (told answer) → p ≡ place (told answer)
       → Outcome checks ws out n p out′
   outcome-of a e f = record { number-is = e ∙ ap number (a .answer-is); place-is = f ∙ ap place (a .answer-is); out-is = a .out-is }
@@ -126,3 +111,7 @@ module _ {A : Type 0} (ws out : List A) {checks : Verdict} where
   pub outcome-determined : {n p m q : ℕ} {out′ out″ : List A} → Outcome checks ws out n p out′ → Outcome checks ws out m q out″
       → (n ≡ m) × (p ≡ q) × (out′ ≡ out″)
   outcome-determined a b = (a .number-is ∙ sym (b .number-is), a .place-is ∙ sym (b .place-is), a .out-is ∙ sym (b .out-is))
+
+-- refused by the first of two checks
+pub answers-first : {A : Type 0} (ws out : List A) {checks : Verdict} (v : Verdict) {why : Refusal} → refusal why ≡ checks → Answers (andThen checks v) ws out (Refused why) out
+answers-first ws out v {why} e = answers-refused ws out refl (handed-up {a = Refused why} refl e v)

@@ -1,2 +1,3 @@
 pub mod Answering
+pub mod Called
 pub mod Offending

@@ -1,6 +1,6 @@
 -- Every row of document 01's table holds: by computing.
 use mathlib.Core.Path.{refl}
-use mathlib.Core.List.{List}
+use mathlib.Core.List.{List, flatten}
 use Rattle.lists.specs.Each.{each, tab, pairs, product, sum}
 use Rattle.lists.specs.Wrote.{over}
 use Rattle.refusals.specs.Verdict.{Verdict, number, place, firstOff}
@@ -20,7 +20,7 @@ use Rattle.placement.specs.Placement as Placement
 use Rattle.placement.specs.Placement.{blockPositions, blockOnce, nonOverlap, ofLines}
 use Rattle.cells.specs.Cells as Cells
 use Rattle.cells.specs.Cells.{covering, byColumn, precomputed, precomputedCells}
-use Rattle.counts.specs.Families.{families, joined}
+use Rattle.counts.specs.Families.{families}
 use Rattle.truth.specs.Truth.{literalTrue, clauseTrue, allTrue}
 use Rattle.truth.specs.Tested.{tested}
 use Rattle.pictures.specs.Pictures.{blocking}
@@ -40,6 +40,6 @@ unfolding
     clueAt lengthAt withColors withLines colorSet known solved offSolved
     times counted readBlock readMask readPuzzle spaces meaningChecks sectionsOf puzzleOf
     firstAt lineAt palette cellFirst variables atLeastOne atMostOne clauseWords clausesWords sectionWords sectionsWords
-    blockPositions blockOnce nonOverlap Placement.ruled ofLines covering Cells.ruled Cells.ofColor byColumn precomputed precomputedCells families joined
+    blockPositions blockOnce nonOverlap Placement.ruled ofLines covering Cells.ruled Cells.ofColor byColumn precomputed precomputedCells families flatten
     literalTrue clauseTrue allTrue tested blocking trues modelChecks
 table-holds = (computes, (computes, (computes, (computes, (computes, (refl, (refl, (computes, (computes, ((refl, refl, refl, refl), (computes, (computes, tt))))))))))))

@@ -1,6 +1,6 @@
 use native.Mathlib.Omega.{arith}
 use Rattle.numbering.proofs.Parts.{ready-within}
-use Rattle.cells.proofs.Asking.{Located, clue-within, part-sound, part-long, front-within, front-is}
+use Rattle.cells.proofs.Asking.{Located, clue-within, part-sound, part-long, front-within, found-is}
 use borrow.Author.Needs.{needs}
 use Rattle.cells.proofs.covering.find_covering.Statement.{statement}
 use Rattle.cells.proofs.covering.find_covering.Tie as tie
@@ -29,4 +29,4 @@ find-covering-spec =
     (λ c. clue-within (located (c .before)))
     (λ c κs. (part-sound (located (c .before .before .before)), (part-long (located (c .before .before .before)), c .before .before .before .before .before .before .before .before .before .pre .1 .1)))
     (λ c. search needs)
-    (λ c. (front-within (located (c .before .before .before .before .before .before)) _ _ (c .before .before .covering-positions .ensures) (c .before .before .before .before .before .before .before .before .before .before .before .before .pre .1 .1) (c .before .before .covering-positions .kept .1 .1 .1 .1 .0), front-is (located (c .before .before .before .before .before .before)) _ _ (c .before .before .covering-positions .ensures))))
+    (λ c. (front-within (located (c .before .before .before .before .before .before)) _ _ (c .before .before .covering-positions .ensures) (c .before .before .before .before .before .before .before .before .before .before .before .before .pre .1 .1) (c .before .before .covering-positions .kept .1 .1 .1 .1 .0), found-is (located (c .before .before .before .before .before .before)) _ _ (c .before .before .covering-positions .ensures))))

@@ -1,6 +1,6 @@
 use mathlib.Core.Path.{sym}
 use lib.Seq.{length-take-le}
-use Rattle.encoding.proofs.Fronts.{wrote-front}
+use Rattle.lists.proofs.Fronts.{wrote-front}
 use borrow.Author.Needs.{needs}
 use Rattle.encoding.proofs.program.encode.Statement.{statement}
 use Rattle.encoding.proofs.program.encode.Tie as tie

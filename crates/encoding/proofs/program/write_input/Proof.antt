@@ -4,7 +4,7 @@ use lib.Seq.{length-take-le}
 use Rattle.refusals.proofs.Answering.{answers-refused}
 use Rattle.encoding.proofs.Telling.{input-refused, input-few, input-answers}
 use Rattle.encoding.proofs.InputWords.{words-count}
-use Rattle.encoding.proofs.Fronts.{front-is}
+use Rattle.lists.proofs.Fronts.{front-is}
 use borrow.Author.Needs.{needs}
 use Rattle.encoding.proofs.program.write_input.Statement.{statement}
 use Rattle.encoding.proofs.program.write_input.Tie as tie

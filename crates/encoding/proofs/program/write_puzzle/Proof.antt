@@ -2,7 +2,7 @@ use mathlib.Core.Path.{refl, sym}
 use native.Mathlib.Omega.{arith}
 use lib.Seq.{length-take-le}
 use Rattle.refusals.proofs.Answering.{answers-refused}
-use Rattle.encoding.proofs.Called.{accepted-checks}
+use Rattle.refusals.proofs.Called.{accepted-checks}
 use Rattle.encoding.proofs.PuzzleText.{counts-refused, counts-variables, clauses-refused, clauses-within, text-answers}
 use borrow.Author.Needs.{needs}
 use Rattle.encoding.proofs.program.write_puzzle.Statement.{statement}

@@ -1,4 +1,5 @@
-use Rattle.probes.proofs.Calling.{answers-puzzle, answers-probes}
+use Rattle.refusals.proofs.Answering.{answers-first}
+use Rattle.probes.proofs.Calling.{answers-probes}
 use Rattle.puzzles.proofs.Accepting.{accepted-is}
 use borrow.Author.Needs.{needs}
 use Rattle.probes.proofs.call.probes.Statement.{statement}
@@ -13,6 +14,6 @@ probes-spec =
     (λ c. search needs)
     (λ c. search needs)
     (λ c κs. let H = (rw (c .before .before .reading2 .given .1) at (c .before .before .before .before .before .read-puzzle .ensures)) in (_, accepted-is _ (H .checked) .good, H .stands))
-    (λ c. answers-puzzle _ _ _ (rw (c .before .reading .given .1) at (c .before .before .before .before .read-puzzle .ensures)))
+    (λ c. answers-first _ _ _ (rw (c .before .reading .given .1) at (c .before .before .before .before .read-puzzle .ensures)))
     (λ c. search needs)
     (λ c. answers-probes (rw (c .before .before .before .before .reading2 .given .1) at (c .before .before .before .before .before .before .before .read-puzzle .ensures)) _ (c .before .answer-probes .ensures)))

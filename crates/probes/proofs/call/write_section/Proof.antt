@@ -5,7 +5,7 @@ use lib.ListN.{length}
 use Rattle.refusals.proofs.Answering.{answers-short, answers-wrote}
 use Rattle.numbering.specs.Variables as N
 use Rattle.numbering.proofs.Palettes.{palette-most}
-use Rattle.probes.proofs.ProbeClauses.{front-is}
+use Rattle.lists.proofs.Fronts.{front-is}
 use Rattle.probes.proofs.Calling.{section-needs}
 use borrow.Author.Needs.{needs}
 use Rattle.probes.proofs.call.write_section.Statement.{statement}

@@ -1,0 +1,52 @@
+-- What the caller of a call knows by its answer: which of its refusals it was, or that there was room.
+use mathlib.Core.Path.{_≡_, refl, sym, ap, _∙_}
+use mathlib.Core.Bool.{false}
+use mathlib.Core.List.{List}
+use Prim.Native.Nat.{ℕ, _≤_}
+use native.Mathlib.Nat.{zero-add}
+use native.Mathlib.Omega.{arith}
+use lib.Dec.{ltb}
+use lib.ListN.{length}
+use borrow.Author.Tests.{le-ltb, ltb-false}
+use Rattle.lists.specs.Wrote.{Wrote, over}
+use Rattle.refusals.specs.declared.Refusal.{Refusal}
+use Rattle.refusals.specs.declared.Answer.{Answer}
+use Rattle.refusals.specs.declared.Answer.the-variants.{Accepted, Refused}
+use Rattle.refusals.specs.Verdict.{Verdict, accepted, refused}
+use Rattle.refusals.specs.Told.{told}
+use Rattle.refusals.specs.Outcome.{Answers, verdict, kept}
+use Rattle.refusals.proofs.Answering.{refused-told, refused-not, refuse-accepted, then-accepted, first-accepted}
+
+module _ {A : Type 0} {checks : Verdict} {ws out out′ : List A} {a : Answer} (given : Answers checks ws out a out′) where
+  module _ {why : Refusal} (r : a ≡ Refused why) where
+    -- with room it was one of the checks
+    pub refused-by : length ws ≤ length out → told a ≡ checks
+    refused-by room = go checks (given .answer-is)
+      where
+        go : (v : Verdict) → told a ≡ verdict v ws out → told a ≡ v
+        go (accepted n) e = absurd (refused-not r (length ws) (e ∙ rw (le-ltb _ _ room)))
+        go (refused k p) e = e
+
+    -- and nothing was written
+    pub refused-kept : out′ ≡ out
+    refused-kept = given .out-is ∙ ap (λ v. kept v ws out) (sym (given .answer-is) ∙ refused-told r)
+
+  module _ {used : ℕ} (r : a ≡ Accepted used) where
+    e : accepted used ≡ verdict checks ws out
+    e = ap told (sym r) ∙ given .answer-is
+
+    pub accepted-checks : (n : ℕ) × (accepted n ≡ checks)
+    accepted-checks = first-accepted checks _ e
+
+    fits : (ltb (length out) (length ws) ≡ false) × (accepted used ≡ accepted (length ws))
+    fits = refuse-accepted (ltb (length out) (length ws)) _ _ _ (then-accepted checks _ e)
+
+    pub accepted-room : length ws ≤ length out
+    accepted-room = ltb-false _ _ (fits .0)
+
+    pub accepted-wrote : Wrote ws out 0 out′ used
+    unfolding over
+    accepted-wrote =
+        let u = fits .1 in
+        let used-is : used ≡ length ws = cc in
+        record { next-is = used-is ∙ sym (zero-add (length ws)); left = given .out-is ∙ ap (λ v. kept v ws out) (sym e) ∙ rw used-is }
