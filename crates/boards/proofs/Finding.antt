@@ -7,10 +7,10 @@ use native.Mathlib.Nat.{add-zero}
 use native.Mathlib.Numerals.{add-one}
 use lib.ListN.{length, take, drop, getD}
 use lib.Seq.{getD-take, getD-drop}
-use Rattle.lines.specs.Clue.{words, gap, minSpace, packed}
+use Rattle.lines.specs.Clue.{words, gap, packed}
 use Rattle.lines.specs.Arrangement.{at}
 use Rattle.lines.proofs.Checks.{size-within}
-use Rattle.lines.proofs.ClueWords.{starts-positions, starts-space, starts-start}
+use Rattle.lines.proofs.ClueWords.{starts-positions, starts-start}
 use Rattle.puzzles.specs.Puzzle.{Puzzle, lines, clueAt, lengthAt}
 use Rattle.puzzles.specs.Checks.{puzzle, Sectioned}
 use Rattle.boards.specs.Table.{beginAt, firstAt, positionsAt, lineWords, LineLaid, Laid}
@@ -32,10 +32,6 @@ module _ (z : Puzzle) (table : List ℕ) (l : ℕ) (L : LineLaid z table l) wher
   pub laid-positions : getD table (68 * l + 2) 0 ≡ positionsAt z l
   unfolding lineWords
   laid-positions = laid-word 2 (omega (arith, line-size z l)) ∙ starts-positions (lengthAt z l) (clueAt z l)
-
-  pub laid-space : getD table (68 * l + 3) 0 ≡ minSpace gap (clueAt z l)
-  unfolding lineWords
-  laid-space = laid-word 3 (omega (arith, line-size z l)) ∙ starts-space (lengthAt z l) (clueAt z l)
 
   pub laid-start : (b : ℕ) → b < length (clueAt z l) → getD table (68 * l + (4 + b)) 0 ≡ at (packed gap (clueAt z l)) b .start
   unfolding lineWords

@@ -20,7 +20,7 @@ use Rattle.refusals.specs.declared.Answer.{Answer}
 use Rattle.refusals.specs.declared.Answer.the-variants.{Accepted, Refused}
 use Rattle.refusals.proofs.Answering.{refused-not, refuse-accepted, told-refused, told-accepted}
 use Rattle.refusals.proofs.Called.{refused-by, accepted-checks, accepted-wrote}
-use Rattle.lines.specs.Clue.{words, gap, minSpace, positions}
+use Rattle.lines.specs.Clue.{words, gap, minSpace}
 use Rattle.lines.specs.Calls.{clueChecks, startsWords}
 use Rattle.lines.proofs.Checks.{proper-clue, size-within}
 use Rattle.lines.proofs.ClueWords.{starts-size, starts-positions, positions-bound}

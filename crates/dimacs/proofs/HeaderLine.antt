@@ -8,15 +8,8 @@ use lib.Seq.{sets, length-sets}
 use Rattle.lists.specs.Wrote.{Wrote}
 use Rattle.lists.proofs.Writing.{wrote-sets, wrote-store, wrote-after, wrote-then, wrote-kept}
 use Rattle.sections.specs.Sections.{Clause}
-use Rattle.dimacs.specs.Text.{digits, space, newline, problem, clausesText, text}
-use Rattle.dimacs.specs.Lines.{header}
+use Rattle.dimacs.specs.Text.{digits, space, newline, problem, header, clausesText, text}
 use Rattle.dimacs.proofs.PutDigits.{digits-few}
-
--- the text is the first line and the others
-text-is : (v : ℕ) (cs : List Clause) → text v cs ≡ header v (length cs) ++ clausesText cs
-unfolding text header
-text-is v cs =
-    sym (rw (append-assoc (digits v) (space ∷ (digits (length cs) ++ (newline ∷ []))) (clausesText cs), append-assoc (digits (length cs)) (newline ∷ []) (clausesText cs)))
 
 module _ (v n : ℕ) where
   pub header-long : length (header v n) ≡ length (digits v) + length (digits n) + 8
@@ -66,7 +59,8 @@ module _ (v n : ℕ) where
 
 module _ (v : ℕ) (cs : List Clause) {n : ℕ} (e : n ≡ length cs) where
   pub text-long : length (text v cs) ≡ length (header v n) + length (clausesText cs)
-  text-long = rw e (ap length (text-is v cs) ∙ length-append (header v (length cs)) (clausesText cs))
+  unfolding text
+  text-long = rw e (length-append (header v (length cs)) (clausesText cs))
 
   module _ (out : List ℕ) (room : length (text v cs) ≤ length out) where
     pub header-room : length (header v n) ≤ length out
@@ -77,4 +71,5 @@ module _ (v : ℕ) (cs : List Clause) {n : ℕ} (e : n ≡ length cs) where
       lines-room = omega (arith, text-long, w .next-is, wrote-kept (omega (arith, header-room)) w)
 
       pub text-wrote : {out₂ : List ℕ} {to : ℕ} → Wrote (clausesText cs) out₁ at out₂ to → Wrote (text v cs) out 0 out₂ to
-      text-wrote x = rw (text-is v cs, ← e) (wrote-then (omega arith) w x)
+      unfolding text
+      text-wrote x = rw (← e) (wrote-then (omega arith) w x)

@@ -6,7 +6,7 @@ use native.Mathlib.Omega.{arith}
 use lib.IntN.{ℤ, pos, negsuc}
 use lib.ListN.{length, getD, length-append, List·getD-append}
 use Rattle.sections.specs.Sections.{Clause}
-use Rattle.dimacs.specs.Text.{digits, space, literalText, clauseText, clausesText, text}
+use Rattle.dimacs.specs.Text.{digits, space, newline, literalText, clauseText, clausesText, problem, header, text}
 use Rattle.dimacs.specs.Reading.{valueFrom, TextOnce}
 use Rattle.dimacs.proofs.NumberText.{OnlyDigits, digits-only, digits-some, digits-value, digits-one}
 
@@ -80,10 +80,14 @@ lines-once [] (d ∷ ds) e = absurd (omega (arith, ap length e, length-append (c
 lines-once (c ∷ cs) [] e = absurd (omega (arith, ap length e, length-append (clauseText c) (clausesText cs), line-some c))
 lines-once (c ∷ cs) (d ∷ ds) e = let r = clauses-parted c d e in ap₂ _∷_ (r .0) (lines-once cs ds (r .1))
 
+opened : (v : ℕ) (cs : List Clause) → text v cs ≡ problem ++ (digits v ++ (space ∷ (digits (length cs) ++ (newline ∷ clausesText cs))))
+unfolding text header
+opened v cs = rw (append-assoc (digits v), append-assoc (digits (length cs)))
+
 pub text-once : TextOnce
-unfolding text
 text-once v w cs ds e =
-    let t : digits v ++ (space ∷ (digits (length cs) ++ (10 ∷ clausesText cs))) ≡ digits w ++ (space ∷ (digits (length ds) ++ (10 ∷ clausesText ds))) = cc in
+    let f = sym (opened v cs) ∙ e ∙ opened w ds in
+    let t : digits v ++ (space ∷ (digits (length cs) ++ (newline ∷ clausesText cs))) ≡ digits w ++ (space ∷ (digits (length ds) ++ (newline ∷ clausesText ds))) = cc in
     let n = numbers-parted v w (omega arith) (omega arith) t in
     let m = numbers-parted (length cs) (length ds) (omega arith) (omega arith) (n .2) in
     (n .0, lines-once cs ds (m .2))

@@ -7,7 +7,7 @@ use lib.IntN.{pos, natAbs, ℤ}
 use lib.ListN.{length, take, drop, getD}
 use Rattle.literals.specs.Literals.{IsVariable, variable}
 use Rattle.sections.specs.Sections.{Clause, sectionsWords}
-use Rattle.dimacs.specs.Text.{digits, space, newline, problem, clausesText}
+use Rattle.dimacs.specs.Text.{clausesText}
 use Rattle.dimacs.specs.declared.count.Size.{Size}
 
 abbrev pub AreVariables : Clause → Type 0
@@ -37,7 +37,3 @@ linesOf ws = linesFrom (length ws) 0 ws
 pub record Sized (cs : List Clause) (r : Size) : Type 0 where
   pub clauses-are : r .clauses ≡ length cs
   pub bytes-are : r .bytes ≡ length (clausesText cs)
-
--- the first line, of v variables and n clauses
-unfoldable pub header : ℕ → ℕ → List ℕ
-header v n = problem ++ (digits v ++ (space ∷ (digits n ++ (newline ∷ []))))

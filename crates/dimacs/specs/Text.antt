@@ -48,5 +48,9 @@ clausesText (c ∷ cs) = clauseText c ++ clausesText cs
 abbrev pub problem : List ℕ
 problem = 112 ∷ space ∷ 99 ∷ 110 ∷ 102 ∷ space ∷ []
 
+-- the first line, of v variables and n clauses
+unfoldable pub header : ℕ → ℕ → List ℕ
+header v n = problem ++ (digits v ++ (space ∷ (digits n ++ (newline ∷ []))))
+
 unfoldable pub text : ℕ → List Clause → List ℕ
-text v cs = problem ++ (digits v ++ (space ∷ (digits (length cs) ++ (newline ∷ clausesText cs))))
+text v cs = header v (length cs) ++ clausesText cs

@@ -6,8 +6,8 @@ use literals::Literal;
 ghost use mathlib.Core.Path.{_≡_};
 ghost use Prim.Native.Nat.{_≤_};
 ghost use lib.ListN.{length};
-ghost use Rattle.dimacs.specs.Text.{literalText, clauseText};
-ghost use Rattle.dimacs.specs.Lines.{AreVariables, Formed, linesOf, Sized, header};
+ghost use Rattle.dimacs.specs.Text.{literalText, clauseText, header};
+ghost use Rattle.dimacs.specs.Lines.{AreVariables, Formed, linesOf, Sized};
 
 // Of the lines behind the first.
 pub struct Size {

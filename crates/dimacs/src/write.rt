@@ -6,8 +6,8 @@ use literals::Literal;
 ghost use Prim.Native.Nat.{_+_, _≤_};
 ghost use lib.ListN.{length};
 ghost use Rattle.lists.specs.Wrote.{Wrote};
-ghost use Rattle.dimacs.specs.Text.{literalText, clauseText, clausesText};
-ghost use Rattle.dimacs.specs.Lines.{AreVariables, Formed, linesOf, header};
+ghost use Rattle.dimacs.specs.Text.{literalText, clauseText, clausesText, header};
+ghost use Rattle.dimacs.specs.Lines.{AreVariables, Formed, linesOf};
 
 // Its sign and its variable.
 fn put_literal(l: Literal, out: &mut [u8], at: usize) -> usize

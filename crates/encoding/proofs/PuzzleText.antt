@@ -1,21 +1,19 @@
 -- From a puzzle's words to the text: its refusals, 12 by clause words, and the call `dimacs` on the clause buffer, which is accepted.
-use mathlib.Core.Path.{_≡_, refl, ap, _∙_}
-use mathlib.Core.Bool.{true}
+use mathlib.Core.Path.{_≡_, refl, _∙_}
 use mathlib.Core.List.{List}
 use Prim.Native.Nat.{ℕ, _≤_}
 use native.Mathlib.Omega.{arith}
-use lib.Dec.{ltb}
 use lib.IntN.{ℤ}
 use lib.ListN.{length, take, getD}
 use borrow.Author.Tests.{le-ltb}
 use Rattle.lists.proofs.Writing.{wrote-at}
-use Rattle.refusals.specs.Verdict.{accepted, andThen}
+use Rattle.refusals.specs.Verdict.{accepted}
 use Rattle.refusals.specs.Told.{told}
 use Rattle.refusals.specs.Outcome.{Answers}
 use Rattle.refusals.specs.declared.Refusal.{Refusal}
 use Rattle.refusals.specs.declared.Answer.{Answer}
 use Rattle.refusals.specs.declared.Answer.the-variants.{Accepted, Refused}
-use Rattle.refusals.proofs.Answering.{handed-up, told-refused, answers-checked}
+use Rattle.refusals.proofs.Answering.{handed-up, answers-checked}
 use Rattle.puzzles.specs.Puzzle.{Puzzle}
 use Rattle.puzzles.specs.Good.{Good}
 use Rattle.puzzles.specs.Checks.{puzzle, puzzleChecks}
@@ -26,11 +24,10 @@ use Rattle.counts.specs.Families.{families, clauses, buffer, countsOf}
 use Rattle.dimacs.specs.Walk.{wordChecks, clausesOf}
 use Rattle.dimacs.specs.Text.{text}
 use Rattle.dimacs.proofs.Accepting.{words-accepted, words-hold}
-use Rattle.encoding.specs.Encode.{textOf}
-use Rattle.encoding.specs.Steps.{bufferChecks, wordsChecks}
+use Rattle.encoding.specs.Encode.{textOf, wordsChecks}
 use Rattle.lists.proofs.Fronts.{front-size, front-is}
 use Rattle.encoding.proofs.ClauseVariables.{families-fine}
-use Rattle.refusals.proofs.Called.{refused-by, accepted-room, accepted-wrote}
+use Rattle.refusals.proofs.Called.{refused-by, accepted-checks, accepted-room, accepted-wrote}
 
 module _ (z : Puzzle) (G : Good z) (few : length (buffer z) ≤ 16384) where
   ten : length (families z) ≡ 10
@@ -58,15 +55,11 @@ module _ (ws : List ℕ) where
     unfolding countsOf
     counts-variables r = wrote-at (omega arith) (accepted-wrote given r) 0 0 (omega (arith, thirteen))
 
-  -- ---- the call `clauses`, of accepted words
+  -- ---- the call `clauses`
 
-  module _ {m : ℕ} (e : accepted m ≡ puzzleChecks ws) {buf buf′ : List ℤ} {a : Answer} (given : Answers (puzzleChecks ws) (buffer (puzzle ws)) buf a buf′) (room : length buf ≡ 16384) where
-    pub clauses-refused : {why : Refusal} → a ≡ Refused why → told a ≡ wordsChecks ws
-    clauses-refused r =
-        let n = length (buffer (puzzle ws)) in
-        let t = told-refused (ltb (length buf) n) 12 n n r (given .answer-is ∙ rw (← e)) in
-        let b : ltb 16384 n ≡ true = rw room at (t .0) in
-        t .1 ∙ rw (← e, b)
+  module _ {buf buf′ : List ℤ} {a : Answer} (given : Answers (puzzleChecks ws) (buffer (puzzle ws)) buf a buf′) (room : length buf ≡ 16384) where
+    pub clauses-told : told a ≡ wordsChecks ws
+    clauses-told = given .answer-is ∙ rw room
 
     module _ {used : ℕ} (r : a ≡ Accepted used) where
       few : length (buffer (puzzle ws)) ≤ 16384
@@ -75,13 +68,14 @@ module _ (ws : List ℕ) where
       pub clauses-within : used ≤ 16384
       clauses-within = omega (arith, front-size (accepted-wrote given r), few)
 
-      -- ---- and the call `dimacs` of them
+      -- ---- and the call `dimacs` of its words
 
       pub text-answers : {v : ℕ} → v ≡ variables (puzzle ws) → {out out′ : List ℕ} {b : Answer}
           → Answers (wordChecks v 10 (take used buf′)) (text v (clausesOf v 10 (take used buf′))) out b out′ → Answers (wordsChecks ws) (textOf (puzzle ws)) out b out′
       text-answers v-is x =
           let z = puzzle ws in
+          let e = accepted-checks given r .1 in
           let G = accepted-is ws e .good in
           let y : Answers (accepted (length (buffer z))) (textOf z) _ _ _ = rw (v-is, front-is (accepted-wrote given r), ← buffer-accepted z G few, buffer-holds z G few) at x in
-          let c : accepted 0 ≡ wordsChecks ws = rw (← e, le-ltb _ _ few) in
+          let c : accepted (length (buffer z)) ≡ wordsChecks ws = rw (← e, le-ltb _ _ few) in
           answers-checked _ _ c y

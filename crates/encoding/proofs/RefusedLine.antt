@@ -8,8 +8,7 @@ use Rattle.lists.specs.Wrote.{Wrote}
 use Rattle.lists.proofs.Writing.{Filling, fill-first, fill-room, fill-next, fill-kept, fill-done, fill-space, fill-store}
 use Rattle.dimacs.specs.Text.{digits, newline}
 use Rattle.dimacs.proofs.PutDigits.{digits-few}
-use Rattle.encoding.specs.Encode.{refusedText}
-use Rattle.encoding.specs.Steps.{refusedWord, atWord}
+use Rattle.encoding.specs.Encode.{refusedWord, atWord, refusedText}
 
 module _ (k p : ℕ) where
   -- what comes behind ` at `, and behind the first number

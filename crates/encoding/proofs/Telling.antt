@@ -1,6 +1,5 @@
 -- From the bytes of the input to the answer of the program, and from that to what it writes.
-use mathlib.Core.Path.{_≡_, refl, sym, ap, _∙_}
-use mathlib.Core.Bool.{Bool, true, false}
+use mathlib.Core.Path.{_≡_, sym, ap, _∙_}
 use mathlib.Core.List.{List}
 use Prim.Native.Nat.{ℕ, _/_, _≤_}
 use native.Mathlib.Omega.{arith}
@@ -8,17 +7,15 @@ use lib.Dec.{ltb}
 use lib.ListN.{length}
 use borrow.Author.Tests.{ltb-false}
 use Rattle.lists.specs.Wrote.{Wrote}
-use Rattle.refusals.specs.Verdict.{Verdict, accepted, refused, number, place, refuse, andThen}
+use Rattle.refusals.specs.Verdict.{accepted, number, place}
 use Rattle.refusals.specs.Told as R
 use Rattle.refusals.specs.Outcome.{Answers}
 use Rattle.refusals.specs.declared.Refusal.{Refusal}
 use Rattle.refusals.specs.declared.Answer.{Answer}
 use Rattle.refusals.specs.declared.Answer.the-variants.{Accepted, Refused}
 use Rattle.refusals.proofs.Answering.{refused-told, handed-up, refuse-accepted}
-use Rattle.puzzles.specs.Checks.{puzzle, puzzleChecks}
-use Rattle.counts.specs.Families.{buffer}
-use Rattle.encoding.specs.Encode.{wordsOf, inputChecks, textOf, programChecks, refusedText, told, encoded}
-use Rattle.encoding.specs.Steps.{wordsChecks, bytesChecks}
+use Rattle.puzzles.specs.Checks.{puzzle}
+use Rattle.encoding.specs.Encode.{wordsOf, inputChecks, textOf, wordsChecks, bytesChecks, programChecks, refusedText, told, encoded}
 use Rattle.refusals.proofs.Called.{refused-kept, accepted-room, accepted-wrote}
 
 -- ---- the bytes
@@ -46,19 +43,10 @@ module _ (bytes : List ℕ) where
   abbrev ofText : List ℕ
   ofText = textOf (puzzle (wordsOf bytes))
 
-  -- all refusals in one row
-  row : (v u : Verdict) (b : Bool) (w : Verdict) (k p : ℕ) → andThen (andThen v (andThen u (refuse b k p (accepted 0)))) w ≡ andThen v (andThen u (refuse b k p w))
-  row (refused j q) u b w k p = refl
-  row (accepted n) (refused j q) b w k p = refl
-  row (accepted n) (accepted m) true w k p = refl
-  row (accepted n) (accepted m) false w k p = refl
-
   module _ {out out′ : List ℕ} (room : 65536 ≡ length out) {a : Answer} (given : Answers (bytesChecks bytes) ofText out a out′) where
     program-is : R.told a ≡ programChecks bytes
     unfolding programChecks
-    program-is =
-        let n = length (buffer (puzzle (wordsOf bytes))) in
-        given .answer-is ∙ row (inputChecks bytes) (puzzleChecks (wordsOf bytes)) (ltb 16384 n) _ 12 n ∙ rw (← room)
+    program-is = given .answer-is ∙ rw (← room)
 
     module _ {used : ℕ} (r : a ≡ Accepted used) where
       pub text-told : Wrote (encoded bytes) out 0 out′ used

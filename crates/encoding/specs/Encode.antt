@@ -6,6 +6,7 @@ use lib.Dec.{eqb, ltb}
 use lib.ListN.{length, getD}
 use Rattle.lists.specs.Each.{tab}
 use Rattle.refusals.specs.Verdict.{Verdict, accepted, refused, refuse, andThen}
+use Rattle.refusals.specs.Outcome.{fits}
 use Rattle.puzzles.specs.Puzzle.{Puzzle}
 use Rattle.puzzles.specs.Checks.{puzzle, puzzleChecks}
 use Rattle.numbering.specs.Variables.{variables}
@@ -25,19 +26,27 @@ inputChecks bytes = refuse (ltb 65536 (length bytes)) 23 65536 (refuse (not (eqb
 abbrev pub textOf : Puzzle → List ℕ
 textOf z = text (variables z) (clauses z)
 
--- 12 by 16,384 clause words, then by 65,536 DIMACS bytes
-abbrev pub roomChecks : Puzzle → Verdict
-roomChecks z =
-    refuse (ltb 16384 (length (buffer z))) 12 (length (buffer z))
-    (refuse (ltb 65536 (length (textOf z))) 12 (length (textOf z)) (accepted (length (textOf z))))
+-- the puzzle, then 12 by 16,384 clause words
+abbrev pub wordsChecks : List ℕ → Verdict
+wordsChecks ws = andThen (puzzleChecks ws) (fits 16384 (length (buffer (puzzle ws))))
 
+-- 23 before
+abbrev pub bytesChecks : List ℕ → Verdict
+bytesChecks bytes = andThen (inputChecks bytes) (wordsChecks (wordsOf bytes))
+
+-- and 12 by 65,536 DIMACS bytes after
 unfoldable pub programChecks : List ℕ → Verdict
-programChecks bytes = andThen (inputChecks bytes) (andThen (puzzleChecks (wordsOf bytes)) (roomChecks (puzzle (wordsOf bytes))))
+programChecks bytes = andThen (bytesChecks bytes) (fits 65536 (length (textOf (puzzle (wordsOf bytes)))))
 
 -- `refused N at P` and a newline
+abbrev pub refusedWord : List ℕ
+refusedWord = 114 ∷ 101 ∷ 102 ∷ 117 ∷ 115 ∷ 101 ∷ 100 ∷ space ∷ []
+
+abbrev pub atWord : List ℕ
+atWord = space ∷ 97 ∷ 116 ∷ space ∷ []
+
 unfoldable pub refusedText : ℕ → ℕ → List ℕ
-refusedText k p =
-    (114 ∷ 101 ∷ 102 ∷ 117 ∷ 115 ∷ 101 ∷ 100 ∷ space ∷ []) ++ (digits k ++ ((space ∷ 97 ∷ 116 ∷ space ∷ []) ++ (digits p ++ (newline ∷ []))))
+refusedText k p = refusedWord ++ (digits k ++ (atWord ++ (digits p ++ (newline ∷ []))))
 
 unfoldable pub told : Verdict → List ℕ → List ℕ
 told (accepted n) t = t

@@ -1,2 +1,1 @@
 pub mod Encode
-pub mod Steps

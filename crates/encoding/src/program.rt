@@ -15,8 +15,7 @@ ghost use Rattle.lists.specs.Wrote.{Wrote};
 ghost use Rattle.refusals.specs.Told.{told};
 ghost use Rattle.refusals.specs.Outcome.{Answers};
 ghost use Rattle.puzzles.specs.Checks.{puzzle};
-ghost use Rattle.encoding.specs.Encode.{wordsOf, inputChecks, textOf, encoded};
-ghost use Rattle.encoding.specs.Steps.{wordsChecks, bytesChecks};
+ghost use Rattle.encoding.specs.Encode.{wordsOf, inputChecks, textOf, wordsChecks, bytesChecks, encoded};
 
 // The most bytes that it takes, and the most that it writes.
 const BYTES: usize = 65536;

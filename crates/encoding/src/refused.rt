@@ -3,8 +3,7 @@ use dimacs::digits::put_number;
 ghost use Prim.Native.Nat.{_+_, _≤_};
 ghost use lib.ListN.{length};
 ghost use Rattle.lists.specs.Wrote.{Wrote};
-ghost use Rattle.encoding.specs.Encode.{refusedText};
-ghost use Rattle.encoding.specs.Steps.{refusedWord, atWord};
+ghost use Rattle.encoding.specs.Encode.{refusedWord, atWord, refusedText};
 
 // `refused `
 fn put_word(out: &mut [u8]) -> usize

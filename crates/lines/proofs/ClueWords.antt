@@ -183,10 +183,6 @@ module _ (n : ℕ) (bs : List Block) where
   unfolding startsWords
   starts-positions = rw (blocks-words bs)
 
-  pub starts-space : getD (startsWords n (words bs)) 1 0 ≡ minSpace gap bs
-  unfolding startsWords
-  starts-space = rw (blocks-words bs)
-
   pub starts-start : (b : ℕ) → getD (startsWords n (words bs)) (2 + b) 0 ≡ at (packed gap bs) b .start
   unfolding startsWords
   starts-start b =

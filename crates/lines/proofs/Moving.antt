@@ -11,7 +11,7 @@ use lib.Dec.{leb, ltb, eqb}
 use borrow.Author.Tests.{eq-eqb, ne-eqb, le-leb, lt-leb, lt-ltb, leb-true, ltb-true, ltb-false, le-ltb}
 use Rattle.lines.specs.Clue.{Block, Run, end, gap, packed, minSpace, positions, conflict}
 use Rattle.lines.specs.Arrangement.{Gap, Proper, at, moved, covers, clash, distance}
-use Rattle.lines.proofs.Packing.{packed-apart, packed-within, packed-sized}
+use Rattle.lines.proofs.Packing.{packed-apart, packed-within}
 
 -- two tests that follow from each other
 leb-same : (a b c d : ℕ) → (a ≤ b → c ≤ d) → (c ≤ d → a ≤ b) → leb a b ≡ leb c d
@@ -68,11 +68,6 @@ unfolding positions
 positions-space g n bs h = omega arith
 
 module _ {g : ℕ → ℕ → ℕ} (G : Gap g) {bs : List Block} (p : Proper bs) where
-  -- a clue with a block has at most as many positions as the line has cells
-  pub positions-most : (n : ℕ) → minSpace g bs ≤ n → 0 < length bs → positions g n bs ≤ n
-  unfolding positions
-  positions-most n h l = omega (arith, packed-within G p 0 l, packed-sized G p 0 l)
-
   -- a block at any of its positions is inside the line
   pub moved-within : (n : ℕ) → minSpace g bs ≤ n → (i : ℕ) → i < positions g n bs → (b : ℕ) → b < length bs → end (moved (at (packed g bs) b) i) ≤ n
   unfolding positions

@@ -18,10 +18,10 @@ use Rattle.truth.specs.Tested.{tested}
 use Rattle.truth.proofs.AllTested.{tested-true, true-tested}
 use Rattle.puzzles.specs.Puzzle.{Puzzle, width, height}
 use Rattle.puzzles.specs.Checks.{puzzle}
-use Rattle.numbering.specs.Variables.{hues, cellFirst, variables}
+use Rattle.numbering.specs.Variables.{hues, cellFirst, variables, firstCell}
 use Rattle.counts.specs.Families.{clauses}
 use Rattle.pictures.specs.Meaning.{NotBoth, OneColor}
-use Rattle.pictures.specs.Pictures.{firstCell, Solves, Model}
+use Rattle.pictures.specs.Pictures.{Solves, Model}
 use Rattle.pictures.proofs.EachFamily.{solved-said}
 use Rattle.pictures.proofs.ShownGrid.{each-cell}
 use Rattle.pictures.proofs.Theorem.{condition-3}

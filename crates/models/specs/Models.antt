@@ -9,9 +9,8 @@ use Rattle.refusals.specs.Verdict.{Verdict, refuse, andThen, firstOff}
 use Rattle.truth.specs.Truth.{Assignment, value}
 use Rattle.truth.specs.Tested.{tested}
 use Rattle.puzzles.specs.Puzzle.{Puzzle, width, height}
-use Rattle.numbering.specs.Variables.{hues, variables}
+use Rattle.numbering.specs.Variables.{hues, variables, firstCell}
 use Rattle.counts.specs.Families.{clauses}
-use Rattle.pictures.specs.Pictures.{firstCell}
 
 -- how many of the n variables from v on are true
 unfoldable pub trues : Assignment → ℕ → ℕ → ℕ

@@ -6,7 +6,6 @@ use native.Mathlib.Omega.{arith}
 use lib.ListN.{length, take, drop, getD, length-take, length-drop}
 use lib.Seq.{getD-take, getD-drop, ext-getD}
 use Rattle.lists.proofs.Eaches.{length-tab, getD-tab}
-use Rattle.refusals.specs.Verdict.{accepted}
 use Rattle.lines.specs.Clue.{words, gap, packed}
 use Rattle.lines.specs.Arrangement.{at}
 use Rattle.lines.proofs.ClueWords.{words-length, word-size, word-color}

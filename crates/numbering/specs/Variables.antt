@@ -49,13 +49,16 @@ hues z = length (palette (colors z))
 abbrev pub hue : Puzzle → ℕ → ℕ
 hue z r = getD (palette (colors z)) r 0
 
--- the first variable of the cell of column x and row y, and that of its r-th colour
+-- the first variable of all cells, that of the cell of column x and row y, and that of its r-th colour
+abbrev pub firstCell : Puzzle → ℕ
+firstCell z = firstAt z (lines z)
+
 unfoldable pub cellFirst : Puzzle → ℕ → ℕ → ℕ
-cellFirst z x y = firstAt z (lines z) + (y * width z + x) * hues z
+cellFirst z x y = firstCell z + (y * width z + x) * hues z
 
 abbrev pub cellVariable : Puzzle → ℕ → ℕ → ℕ → ℕ
 cellVariable z x y r = cellFirst z x y + r
 
 -- how many variables there are
 unfoldable pub variables : Puzzle → ℕ
-variables z = firstAt z (lines z) - 1 + width z * height z * hues z
+variables z = firstCell z - 1 + width z * height z * hues z

@@ -10,12 +10,12 @@ use borrow.Author.Tests.{eq-eqb, eqb-true}
 use Rattle.lines.proofs.SameCells.{same-cells}
 use Rattle.puzzles.specs.Puzzle.{Puzzle, width, height, lines}
 use Rattle.puzzles.specs.Good.{Good}
-use Rattle.numbering.specs.Variables.{hues, hue, cellVariable}
+use Rattle.numbering.specs.Variables.{hues, hue, cellVariable, firstCell}
 use Rattle.numbering.proofs.Bounds.{first-some}
 use Rattle.grids.specs.Grid.{row}
 use Rattle.grids.proofs.Cells.{cell-within, row-length, row-cell}
 use Rattle.truth.specs.Truth.{Assignment}
-use Rattle.pictures.specs.Pictures.{Extends, firstCell, shown, blocking}
+use Rattle.pictures.specs.Pictures.{Extends, shown, blocking}
 use Rattle.pictures.proofs.EachFamily.{Said}
 use Rattle.pictures.proofs.ColorsOfK.{known-hue}
 use Rattle.pictures.proofs.TrueClauses.{Holds, some-each-means, some-when-means, no-means}

@@ -16,11 +16,11 @@ use Rattle.lists.proofs.Eaches.{length-tab, getD-tab}
 use Rattle.lists.proofs.Parts.{place-within}
 use Rattle.puzzles.specs.Puzzle.{Puzzle, width, height}
 use Rattle.puzzles.specs.Checks.{colors}
-use Rattle.numbering.specs.Variables.{palette, hues, hue, cellFirst, cellVariable}
+use Rattle.numbering.specs.Variables.{palette, hues, hue, cellFirst, cellVariable, firstCell}
 use Rattle.grids.proofs.Cells.{cell-within}
 use Rattle.truth.specs.Truth.{Assignment}
 use Rattle.pictures.specs.Meaning.{OneColor}
-use Rattle.pictures.specs.Pictures.{IsColor, Grid, Extends, colorOf, firstCell, shown}
+use Rattle.pictures.specs.Pictures.{IsColor, Grid, Extends, colorOf, shown}
 use Rattle.pictures.proofs.ColorsOfK.{hue-known, hue-once, same-color}
 
 -- ---- cells by column and row

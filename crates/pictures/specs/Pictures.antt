@@ -12,11 +12,10 @@ use Rattle.literals.specs.Literals.{negative}
 use Rattle.bits.specs.Bits.{bit}
 use Rattle.sections.specs.Sections.{Clause}
 use Rattle.lines.specs.Line.{runs}
-use Rattle.puzzles.specs.Puzzle.{Puzzle, width, height, lines}
+use Rattle.puzzles.specs.Puzzle.{Puzzle, width, height}
 use Rattle.puzzles.specs.Colors.{solved}
 use Rattle.puzzles.specs.Checks.{colors, puzzle, puzzleChecks}
-use Rattle.boards.specs.Table.{firstAt}
-use Rattle.numbering.specs.Variables.{palette, hues, hue, cellVariable, variables}
+use Rattle.numbering.specs.Variables.{palette, hues, hue, firstCell, cellVariable, variables}
 use Rattle.counts.specs.Families.{clauses}
 use Rattle.grids.specs.Grid.{row, column, gridChecks, gridWords}
 use Rattle.truth.specs.Truth.{Assignment, value, Satisfies}
@@ -62,10 +61,6 @@ Extends z grid β =
 unfoldable pub colorOf : Assignment → ℕ → List ℕ → ℕ
 colorOf β v [] = 0
 colorOf β v (c ∷ cs) = cond (β v) c (colorOf β (suc v) cs)
-
--- the first cell variable
-abbrev pub firstCell : Puzzle → ℕ
-firstCell z = firstAt z (lines z)
 
 -- the grid that an assignment shows
 unfoldable pub shown : Puzzle → Assignment → List ℕ

@@ -33,9 +33,7 @@ rowsOf L first p a b = rowsFrom (first + a * p) (first + b * p) (apart L a b) p
 
 -- the words of a pair of blocks: those of the later one are there, and the earlier one ends before it starts
 pub record PairWords (line clue : List ℕ) (a b : ℕ) : Type 0 where
-  pub order : a < b
   pub few : b < 64
-  pub words-within : 2 * b + 1 < length clue
   pub ends : getD line (4 + a) 0 + getD clue (2 * a) 0 ≤ getD line (4 + b) 0
   pub starts : getD line (4 + b) 0 ≤ 64
 
@@ -54,9 +52,7 @@ module _ (line clue : List ℕ) (S : Sound (lineOf line clue)) where
         let ra = of-run line clue a (omega (arith, known)) in
         let rb = of-run line clue b known in
         record {
-          order = h;
           few = omega (arith, known, sound-shared S, sound-some S);
-          words-within = omega arith;
           ends = omega (arith, rw (ra, rb) at (sound-apart S a b h known));
           starts = omega (arith, rw rb at (sound-within S b known 0 (sound-some S)));
         }

@@ -7,7 +7,7 @@ use native.Mathlib.Nat.{zero-add}
 use native.Mathlib.Omega.{arith}
 use lib.ListN.{length}
 use borrow.Author.Tests.{lt-ltb, le-ltb}
-use Rattle.lists.specs.Wrote.{Wrote, over}
+use Rattle.lists.specs.Wrote.{Wrote}
 use Rattle.lists.proofs.Writing.{wrote-over}
 use Rattle.refusals.specs.declared.Refusal.{Refusal}
 use Rattle.refusals.specs.declared.Refusal.the-variants.{WordMissing, Size, TooManyBlocks, EmptyBlock, BlockColor, LineTooShort, CellCount, EmptyMask, ColumnColor, SolvedColor, LeftOver, OutputTooShort, ModelLength, ModelByte, FalseClause, TwoColors, OffGrid, ColorTooLarge, ProbeColor, TooManyProbeWords, DimacsLimit, ClauseWords, ProgramInput}
@@ -15,7 +15,7 @@ use Rattle.refusals.specs.declared.Answer.{Answer}
 use Rattle.refusals.specs.declared.Answer.the-variants.{Accepted, Refused}
 use Rattle.refusals.specs.Verdict.{Verdict, accepted, refused, number, place, refuse, andThen}
 use Rattle.refusals.specs.Told.{refusal, told}
-use Rattle.refusals.specs.Outcome.{Answers, Outcome, verdict, kept}
+use Rattle.refusals.specs.Outcome.{Answers, Outcome}
 
 refusal-is : (why : Refusal) → refusal why ≡ refused (number (refusal why)) (place (refusal why))
 refusal-is (WordMissing p) = refl

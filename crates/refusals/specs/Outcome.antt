@@ -9,10 +9,14 @@ use Rattle.refusals.specs.declared.Answer.{Answer}
 use Rattle.refusals.specs.Verdict.{Verdict, accepted, refused, number, place, refuse, andThen}
 use Rattle.refusals.specs.Told.{told}
 
+-- 12 where there is less room than is needed, at the length needed
+abbrev pub fits : ℕ → ℕ → Verdict
+fits room need = refuse (ltb room need) 12 need (accepted need)
+
 module _ {A : Type 0} where
-  -- 12 is given last, at the length needed
+  -- 12 is given last
   abbrev pub verdict : Verdict → List A → List A → Verdict
-  verdict checks ws out = andThen checks (refuse (ltb (length out) (length ws)) 12 (length ws) (accepted (length ws)))
+  verdict checks ws out = andThen checks (fits (length out) (length ws))
 
   -- no refusal writes anything; acceptance writes exactly ws at the front, and the rest stays
   abbrev pub kept : Verdict → List A → List A → List A

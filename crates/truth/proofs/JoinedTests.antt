@@ -1,9 +1,9 @@
 -- Two lists of clauses tested, one after the other.
-use mathlib.Core.Path.{_≡_, sym}
+use mathlib.Core.Path.{_≡_}
 use mathlib.Core.List.{List, _++_}
 use Prim.Native.Nat.{ℕ}
 use native.Mathlib.Omega.{arith}
-use lib.ListN.{length, length-append}
+use lib.ListN.{length-append}
 use Rattle.sections.specs.Sections.{Clause}
 use Rattle.truth.specs.Truth.{Assignment}
 use Rattle.truth.specs.Tested.{tested, said, Countable}

@@ -1,7 +1,7 @@
 use native.Mathlib.Numerals.{unary-clauses}
 use lib.ListN.{length-set}
 use Rattle.lists.proofs.Writing.{wrote-sets}
-use Rattle.encoding.specs.Steps.{atWord}
+use Rattle.encoding.specs.Encode.{atWord}
 use borrow.Author.Needs.{needs}
 use Rattle.encoding.proofs.refused.put_at.Statement.{statement}
 use Rattle.encoding.proofs.refused.put_at.Tie as tie

@@ -1,6 +1,6 @@
 use lib.ListN.{length-set}
 use Rattle.lists.proofs.Writing.{wrote-sets}
-use Rattle.encoding.specs.Steps.{refusedWord}
+use Rattle.encoding.specs.Encode.{refusedWord}
 use borrow.Author.Needs.{needs}
 use Rattle.encoding.proofs.refused.put_word.Statement.{statement}
 use Rattle.encoding.proofs.refused.put_word.Tie as tie

@@ -1,0 +1,56 @@
+-- Document 01, "Slips to rule out" and "Fakes the statements shut out": what a slip would write, the definitions do not have; what a fake would answer, the promises do not allow.
+use mathlib.Core.Path.{_≡_}
+use mathlib.Core.List.{List, [], _∷_, _++_}
+use Prim.Native.Nat.{ℕ, suc}
+use lib.IntN.{ℤ}
+use Rattle.literals.specs.Literals.{positive, negative}
+use Rattle.puzzles.specs.Checks.{puzzle}
+use Rattle.truth.specs.Truth.{value, Satisfies}
+use Rattle.pictures.specs.Pictures.{Picture, shown}
+use Rattle.pictures.specs.Meaning.{section}
+use Rattle.pictures.specs.Examples.{p8, p10, p11, p11-model, level}
+use Rattle.haafgrim.specs.Entries.{Clauses, Counts, CheckModel, Blocking}
+use Rattle.table.specs.Table.{filled}
+
+-- what is lent
+abbrev pub sevens : ℕ → List ℤ
+sevens n = filled n (positive 7)
+
+-- ---- slips
+
+-- width 3, height 1, columns (1,1), (1,2) and none, row (1,1) (1,2), masks of bits 0 to 2
+unfoldable pub apart : List ℕ
+apart = 3 ∷ 1 ∷ 1 ∷ 1 ∷ 1 ∷ 1 ∷ 2 ∷ 0 ∷ 1 ∷ 2 ∷ 1 ∷ 1 ∷ 1 ∷ 2 ∷ 3 ∷ 7 ∷ 7 ∷ 7 ∷ []
+
+pub record SlipsRuledOut : Type 0 where
+  -- cells are taken column by column: variables 9, 11, 10, 12
+  pub by-column : section (puzzle p11) 7
+      ≡ (positive 1 ∷ negative 9 ∷ []) ∷ (positive 5 ∷ negative 9 ∷ []) ∷ (positive 2 ∷ negative 11 ∷ []) ∷ (positive 7 ∷ negative 11 ∷ [])
+      ∷ (positive 3 ∷ negative 10 ∷ []) ∷ (positive 6 ∷ negative 10 ∷ []) ∷ (positive 4 ∷ negative 12 ∷ []) ∷ (positive 8 ∷ negative 12 ∷ []) ∷ []
+  -- different colours may touch: one conflict, where one test for all colours would find three
+  pub one-conflict : section (puzzle apart) 6 ≡ (negative 4 ∷ negative 5 ∷ []) ∷ []
+  -- a blocking clause names true cells, and no other cell or block
+  pub true-cells : (n p : ℕ) (out : List ℤ) → Blocking p11 p11-model (sevens 3) n p out → out ≡ positive 2 ∷ negative 9 ∷ negative 12 ∷ []
+
+-- ---- fakes
+
+-- no model of P11: both blocks of its columns in the first row
+abbrev pub p11-level : List ℕ
+p11-level = 1 ∷ 0 ∷ 1 ∷ 0 ∷ 1 ∷ 0 ∷ 1 ∷ 0 ∷ 1 ∷ 1 ∷ 0 ∷ 0 ∷ []
+
+pub record FakesShutOut : Type 0 where
+  -- refusing everything: P8 is not refused
+  pub refusing : (k p : ℕ) (out : List ℤ) → Clauses p8 (sevens 38) (suc k) p out → ⊥
+  -- one fixed clause buffer, for P8 and P10
+  pub fixed : (n p m q : ℕ) (out : List ℤ) → Clauses p8 (sevens 38) n p out → Clauses p10 (sevens 38) m q out → ⊥
+  -- untouched output
+  pub untouched : (n p : ℕ) → Clauses p8 (sevens 38) n p (sevens 38) → ⊥
+  -- only section 1
+  pub only-one : (n p : ℕ) → Clauses p8 (sevens 38) n p ((positive 1 ∷ positive 1 ∷ positive 1 ∷ []) ++ sevens 35) → ⊥
+  -- which admits a false picture
+  pub false-picture : Satisfies (value p11-level) (section (puzzle p11) 1) × (shown (puzzle p11) (value p11-level) ≡ level) × (Picture (puzzle p11) level → ⊥)
+  -- accepting every model: one of P8 makes the clause at 4 false
+  pub accepting : (n p : ℕ) (out : List ℕ) → CheckModel p8 (1 ∷ 1 ∷ 0 ∷ []) (7 ∷ []) n p out → (n ≡ 15) × (p ≡ 4)
+  -- an invented count, of words or of clauses
+  pub words-counted : (n p : ℕ) (out : List ℤ) → Clauses p8 (sevens 38) n p out → p ≡ 26
+  pub clauses-counted : (n p : ℕ) (out : List ℕ) → Counts p10 (filled 13 7) n p out → out ≡ 5 ∷ 1 ∷ 1 ∷ 0 ∷ 1 ∷ 0 ∷ 0 ∷ 4 ∷ 3 ∷ 0 ∷ 0 ∷ 18 ∷ 38 ∷ []
