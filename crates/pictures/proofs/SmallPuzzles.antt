@@ -1,11 +1,14 @@
 -- Small puzzles: their words are accepted and have pictures, P11 two.
-use mathlib.Core.Path.{refl, ap, subst}
+use mathlib.Core.Path.{_≡_, refl, sym, ap, subst, _∙_}
+use mathlib.Core.Logic.{inr}
+use mathlib.Core.Bool.{false≢true}
 use mathlib.Core.List.{List, flatten}
 use Prim.Native.Nat.{ℕ}
 use native.Mathlib.Omega.{arith}
+use lib.ListN.{length}
 use Rattle.lists.specs.Each.{each, tab, pairs, product}
 use Rattle.refusals.specs.Verdict.{firstOff}
-use Rattle.sections.specs.Sections.{atLeastOne, atMostOne, clauseWords, clausesWords, sectionWords, sectionsWords}
+use Rattle.sections.specs.Sections.{atLeastOne, atMostOne}
 use Rattle.bits.specs.Bits.{bit, powers, withBit}
 use Rattle.lines.specs.Clue.{words, gap, packedFrom, packed, lastEnd, minSpace, positions, conflict}
 use Rattle.lines.specs.Line.{run, runsFrom, runs}
@@ -27,14 +30,14 @@ use Rattle.pictures.specs.Pictures.{Grid, permits, obeys, Picture, color
 use Rattle.pictures.specs.Examples.{p8, p10, p11, p12, two, Read, Computed, SmallPictures}
 use Rattle.pictures.proofs.ReadGrids.{grids-read}
 
--- above crate `lines`, here alone are definitions of it unfolded
+-- above crate `lines`, here and in `table` alone are definitions of it unfolded
 pub computed : Computed
 unfolding
     p8 p10 p11 p12 two each tab pairs product firstOff bit powers withBit
     gap packedFrom packed lastEnd minSpace positions conflict words run runsFrom runs
     clueWords cluesWords linesWords cellsWords puzzleWords clueAt lengthAt withColors withLines colorSet known solved offSolved
     times counted readBlock readMask readPuzzle spaces meaningChecks sectionsOf puzzleOf
-    firstAt lineAt palette cellFirst variables atLeastOne atMostOne clauseWords clausesWords sectionWords sectionsWords
+    firstAt lineAt palette cellFirst variables atLeastOne atMostOne
     blockPositions blockOnce nonOverlap Placement.ruled ofLines covering Cells.ruled ofColor byColumn precomputed precomputedCells families flatten
     row column sizeChecks gridChecks rowClues columnClues gridPuzzle gridWords
     literalTrue clauseTrue allTrue permits obeys colorOf shown blocking
@@ -43,14 +46,11 @@ computed = record {
   p10-accepted = refl;
   p11-accepted = refl;
   p12-accepted = refl;
-  p8-clauses = refl;
-  p10-variables = refl;
-  p10-clauses = refl;
-  p10-words = refl;
   full-read = record { checked = refl; written = refl };
   left-read = record { checked = refl; written = refl };
   falling-read = record { checked = refl; written = refl };
   rising-read = record { checked = refl; written = refl };
+  right-off = λ P. omega (arith, ap length (P .columns-read 0 (omega arith)));
   level-off = λ P. omega (arith, ap (λ bs. blockAt bs 0 .size) (P .rows-read 0 (omega arith)));
   p11-solved = refl;
   p11-shown = refl;
@@ -67,6 +67,16 @@ computed = record {
   solved-color = refl;
   excluded = refl;
   blank-stays = refl;
+  row-off = λ H.
+      false≢true (H 0 0 0 (omega arith) (omega arith) (omega arith) .1 0 0 (record { block-in = omega arith; position-in = omega arith; color-is = refl; covered = refl }) refl);
+  both-off = λ H. H 0 0 0 1 (omega arith) (omega arith) (omega arith) (omega arith) refl refl;
+  column-off = λ E. false≢true (E 1 0 0 (omega arith) (omega arith) (omega arith));
+  five-known = inr (search arith);
+  byte-off = λ M. omega (arith, M .bytes 0 (omega arith));
+  p12-unique = λ grid β γ s t e f v l m.
+      let one : v ≡ 1 = omega arith in
+      rw one (e 0 0 0 (omega arith) (omega arith) (omega arith) ∙ sym (f 0 0 0 (omega arith) (omega arith) (omega arith)));
+  p12-second = refl;
 }
 
 -- what a grid is read as has it as a picture

@@ -3,15 +3,13 @@ use mathlib.Core.Path.{_≡_}
 use mathlib.Core.Bool.{true, false}
 use mathlib.Core.List.{List, [], _∷_, map}
 use Prim.Native.Nat.{ℕ}
-use lib.ListN.{length}
 use Rattle.refusals.specs.Verdict.{accepted}
-use Rattle.literals.specs.Literals.{positive, negative}
+use Rattle.literals.specs.Literals.{negative}
 use Rattle.puzzles.specs.Checks.{puzzle, puzzleChecks}
-use Rattle.numbering.specs.Variables.{variables}
-use Rattle.counts.specs.Families.{clauses, buffer}
 use Rattle.grids.specs.Grid.{gridChecks, gridWords}
 use Rattle.truth.specs.Truth.{value}
-use Rattle.pictures.specs.Pictures.{Grid, Picture, obeys, Solves, shown, blocking}
+use Rattle.pictures.specs.Pictures.{IsColor, Grid, obeys, Picture, Solves, Extends, shown, blocking, Model, Unique}
+use Rattle.pictures.specs.Meaning.{IsColored, EachCell, OneColor}
 
 -- P8: one cell, its column and its row (1,1), mask 3
 unfoldable pub p8 : List ℕ
@@ -43,12 +41,15 @@ two = 2 ∷ 1 ∷ 1 ∷ 2 ∷ 1 ∷ 1 ∷ 5 ∷ 1 ∷ 2 ∷ 1 ∷ 2 ∷ 1 ∷ 5 
 abbrev pub two-model : List ℕ
 two-model = 1 ∷ 1 ∷ 1 ∷ 1 ∷ 1 ∷ 0 ∷ 0 ∷ 1 ∷ []
 
--- the picture of P8, and that of P10
+-- the picture of P8; that of P10, and a grid that is none
 abbrev pub full : List ℕ
 full = 1 ∷ []
 
 abbrev pub left : List ℕ
 left = 1 ∷ 0 ∷ []
+
+abbrev pub right : List ℕ
+right = 0 ∷ 1 ∷ []
 
 -- the two pictures of P11, and a grid that is none
 abbrev pub falling : List ℕ
@@ -78,20 +79,13 @@ pub record Computed : Type 0 where
   pub p10-accepted : puzzleChecks p10 ≡ accepted 2
   pub p11-accepted : puzzleChecks p11 ≡ accepted 2
   pub p12-accepted : puzzleChecks p12 ≡ accepted 2
-  -- the clauses of P8, and how many P10 has
-  pub p8-clauses : clauses (puzzle p8)
-      ≡ (positive 1 ∷ []) ∷ (positive 2 ∷ [])
-      ∷ (positive 1 ∷ negative 3 ∷ []) ∷ (positive 2 ∷ negative 3 ∷ [])
-      ∷ (negative 1 ∷ positive 3 ∷ []) ∷ (negative 2 ∷ positive 3 ∷ []) ∷ []
-  pub p10-variables : variables (puzzle p10) ≡ 5
-  pub p10-clauses : length (clauses (puzzle p10)) ≡ 10
-  pub p10-words : length (buffer (puzzle p10)) ≡ 38
   -- grids that are read as them
   pub full-read : Read 1 1 full p8
   pub left-read : Read 2 1 left p10
   pub falling-read : Read 2 2 falling p11
   pub rising-read : Read 2 2 rising p11
-  -- the first row of this one is not a block of size 1
+  -- the first column of this one has no block, and the first row of that one is not a block of size 1
+  pub right-off : Picture (puzzle p10) right → ⊥
   pub level-off : Picture (puzzle p11) level → ⊥
   -- a model of P11, its picture and its blocking clause; and those of P12, where the clause is empty
   pub p11-solved : Solves (puzzle p11) (value p11-model)
@@ -111,6 +105,17 @@ pub record Computed : Type 0 where
   pub solved-color : map (obeys 4) (0 ∷ 1 ∷ 2 ∷ []) ≡ false ∷ false ∷ true ∷ []
   pub excluded : map (obeys 3) (0 ∷ 1 ∷ 2 ∷ []) ≡ true ∷ true ∷ false ∷ []
   pub blank-stays : map (obeys 34) (0 ∷ 1 ∷ 2 ∷ []) ≡ true ∷ true ∷ false ∷ []
+  -- 8 and 9 are told: a row has its block where no cell is coloured; a cell has both colours
+  pub row-off : EachCell (puzzle p10) (IsColored (value (0 ∷ 1 ∷ 0 ∷ 0 ∷ 0 ∷ []))) → ⊥
+  pub both-off : OneColor (puzzle two) (value (1 ∷ 1 ∷ 1 ∷ 1 ∷ 1 ∷ 1 ∷ 0 ∷ 1 ∷ [])) → ⊥
+  -- this assignment colours the first column, and the grid has the first row
+  pub column-off : Extends (puzzle p11) level (value (0 ∷ 0 ∷ 0 ∷ 0 ∷ 0 ∷ 0 ∷ 0 ∷ 0 ∷ 1 ∷ 0 ∷ 1 ∷ 0 ∷ [])) → ⊥
+  -- 5 is a colour where K is {2, 5}, and 2 no byte of a model
+  pub five-known : IsColor (puzzle two) 5
+  pub byte-off : Model (puzzle p12) (2 ∷ []) → ⊥
+  -- P12 has one variable, and nothing is said of a second
+  pub p12-unique : Unique (puzzle p12)
+  pub p12-second : Solves (puzzle p12) (value (0 ∷ 1 ∷ []))
 
 -- and their pictures; P11 has two
 pub record SmallPictures : Type 0 where

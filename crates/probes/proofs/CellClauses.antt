@@ -1,10 +1,12 @@
 -- What a premise and an impact say of a cell, colour by colour, as it is written.
 use mathlib.Core.Path.{_≡_, ap, _∙_}
+use mathlib.Core.Bool.{true, false}
 use mathlib.Core.List.{List, [], _∷_, _++_, map}
 use Prim.Native.Nat.{ℕ, _+_, _≤_, _<_}
 use native.Mathlib.Omega.{arith}
 use native.Mathlib.Decide.{ℕ-discrete}
 use lib.IntN.{ℤ, pos}
+use lib.Dec.{eqb}
 use lib.ListN.{length, set, getD, length-append, length-set}
 use borrow.Author.Tests.{eq-eqb, ne-eqb}
 use Rattle.lists.specs.Each.{each, tab}
@@ -15,28 +17,28 @@ use Rattle.literals.specs.Literals.{positive, negative}
 use Rattle.sections.specs.Sections.{Clause, clauseWords, clausesWords, atLeastOne}
 use Rattle.sections.proofs.ClauseLists.{clauses-one, say-first, say-done, said}
 use Rattle.probes.specs.Implications.{premiseOf, implied, impactOf}
-use Rattle.probes.specs.ByWords.{premiseAt}
+use Rattle.probes.specs.ByWords.{premiseLiteral, premiseAt}
 use Rattle.probes.proofs.ProbeSizes.{premise-most}
 
 -- ---- a premise
 
 module _ (c d u : ℕ) where
-  pub premise-blank : c ≡ 0 → premiseAt c d u ≡ positive u ∷ []
+  pub premise-blank : c ≡ 0 → premiseAt c d u ≡ premiseLiteral c u ∷ []
   unfolding premiseAt
   premise-blank e = rw (eq-eqb c 0 e)
 
   module _ (some : c ≡ 0 → ⊥) where
-    pub premise-color : d ≡ c → premiseAt c d u ≡ negative u ∷ []
+    pub premise-color : eqb d c ≡ true → premiseAt c d u ≡ premiseLiteral c u ∷ []
     unfolding premiseAt
-    premise-color e = rw (ne-eqb c 0 some, eq-eqb d c e)
+    premise-color e = rw (ne-eqb c 0 some, e)
 
-    pub premise-other : (d ≡ c → ⊥) → premiseAt c d u ≡ []
+    pub premise-other : eqb d c ≡ false → premiseAt c d u ≡ []
     unfolding premiseAt
-    premise-other e = rw (ne-eqb c 0 some, ne-eqb d c e)
+    premise-other e = rw (ne-eqb c 0 some, e)
 
 module _ (cs : List ℕ) (v c : ℕ) where
   premise-each : premiseOf cs v c ≡ each (length cs) (λ r. premiseAt c (getD cs r 0) (v + r))
-  unfolding premiseOf premiseAt atLeastOne tab
+  unfolding premiseOf premiseAt premiseLiteral atLeastOne tab
   premise-each = elim (ℕ-discrete c 0) [ yes e ↦ rw (eq-eqb c 0 e) | no e ↦ rw (ne-eqb c 0 e) ]
 
   pub premise-first : (out : List ℤ) → length cs ≤ length out → Emitting (length cs) (λ r. premiseAt c (getD cs r 0) (v + r)) out 0 out 0 0

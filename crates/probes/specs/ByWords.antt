@@ -1,7 +1,8 @@
 -- The clauses of probes, by the numbers of a board and by accepted probe words.
-use mathlib.Core.Bool.{cond}
+use mathlib.Core.Bool.{cond, _||_}
 use mathlib.Core.List.{List, [], _∷_}
 use Prim.Native.Nat.{ℕ, zero, suc, _+_, _-_, _*_, _/_, _≤_, _<_}
+use lib.IntN.{ℤ}
 use lib.Dec.{eqb, ltb}
 use lib.ListN.{length, take, drop, getD}
 use Rattle.lists.specs.Each.{each, when}
@@ -19,9 +20,13 @@ checksOn w h K us = refuse (ltb 1048576 (length us)) 20 (length us) (walked (rea
 
 -- ---- of the words of one probe
 
--- what a premise of colour c says of the variable u of colour d: blank, it; that colour, it is negated; else nothing
+-- the literal of the variable u in a premise of colour c: itself for blank, negated for a colour
+unfoldable pub premiseLiteral : ℕ → ℕ → ℤ
+premiseLiteral c u = cond (eqb c 0) (positive u) (negative u)
+
+-- what a premise of colour c says of the variable u of colour d: its literal, where c is blank or d; else nothing
 unfoldable pub premiseAt : ℕ → ℕ → ℕ → Clause
-premiseAt c d u = cond (eqb c 0) (positive u ∷ []) (when (eqb d c) (negative u ∷ []))
+premiseAt c d u = when (eqb c 0 || eqb d c) (premiseLiteral c u ∷ [])
 
 -- the cell is on the board
 abbrev pub OnBoard : Board → Claim → Type 0

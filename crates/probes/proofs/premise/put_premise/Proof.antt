@@ -28,6 +28,6 @@ put-premise-spec =
     (λ c κs. (record { least = omega arith; most = omega arith }, emit-room (c .before .before .before .loop .inv .1) (omega arith)))
     (λ c. search needs)
     (λ c. search needs)
-    (λ c. (c .before .before .before .before .before .loop .inv .0, emit-next (c .before .before .before .before .before .loop .inv .1) (omega arith) (c .before .premise-literal .ensures)))
+    (λ c. (c .before .before .before .before .before .loop .inv .0, emit-next (c .before .before .before .before .before .loop .inv .1) (omega arith) (c .before .put-literal .ensures)))
     (λ c. emit-kept (c .before .loop .inv .1))
     (λ c. premise-done (c .before .before .before .args .palette .now) (c .before .before .before .args .v) (c .before .before .before .args .color) (c .before .loop .inv .1) (omega arith)))
