@@ -4,7 +4,7 @@
  *   0        accepted; the place is how many words or bytes were written, from the front of `out` on, and the rest of `out` is as it was;
  *   others   refused, with the number and the place of the table in docs/STATEMENTS.md; nothing of `out` is changed.
  * `*place` is set on every answer. (haafgrim_from_two_powers alone has no buffer and no place: it answers its mask.)
- * Refusals are listed below in the order in which they are tested; in a walk over words, the first word that offends decides, and so 4 and 5 of a clue
+ * Refusals are listed below in the order in which they are tested; in a walk over words, the first word that offends decides, and so 4 and 5 of a clue,
  * 1, 2, 3, 4, 5, 7 and 8 of a puzzle, and 1, 17, 18 and 19 of probe words go by word.
  *
  * A slice is a pointer and then its length in elements; where the length is 0 the pointer is not used and may be NULL.

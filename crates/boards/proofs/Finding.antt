@@ -13,28 +13,28 @@ use Rattle.lines.proofs.Checks.{size-within}
 use Rattle.lines.proofs.ClueWords.{starts-positions, starts-start}
 use Rattle.puzzles.specs.Puzzle.{Puzzle, lines, clueAt, lengthAt}
 use Rattle.puzzles.specs.Checks.{puzzle, Sectioned}
-use Rattle.boards.specs.Table.{beginAt, firstAt, positionsAt, lineWords, LineLaid, Laid}
+use Rattle.boards.specs.Table.{beginAt, firstAt, positionsAt, laidWords, LineLaid, Laid}
 use Rattle.boards.proofs.Beginning.{Here}
 use Rattle.boards.proofs.Laying.{line-size, line-fine, line-here, lines-most, variables-most, first-most}
 
 module _ (z : Puzzle) (table : List ℕ) (l : ℕ) (L : LineLaid z table l) where
-  laid-word : (i : ℕ) → i < length (lineWords z l) → getD table (68 * l + i) 0 ≡ getD (lineWords z l) i 0
-  laid-word i h = sym (getD-drop (68 * l) table i 0) ∙ sym (getD-take (length (lineWords z l)) (drop (68 * l) table) i 0 h) ∙ ap (λ (w : List ℕ). getD w i 0) L
+  laid-word : (i : ℕ) → i < length (laidWords z l) → getD table (68 * l + i) 0 ≡ getD (laidWords z l) i 0
+  laid-word i h = sym (getD-drop (68 * l) table i 0) ∙ sym (getD-take (length (laidWords z l)) (drop (68 * l) table) i 0 h) ∙ ap (λ (w : List ℕ). getD w i 0) L
 
   pub laid-begin : getD table (68 * l) 0 ≡ beginAt z l
-  unfolding lineWords
+  unfolding laidWords
   laid-begin = ap (λ (k : ℕ). getD table k 0) (sym (add-zero (68 * l))) ∙ laid-word 0 (omega (arith, line-size z l))
 
   pub laid-first : getD table (68 * l + 1) 0 ≡ firstAt z l
-  unfolding lineWords
+  unfolding laidWords
   laid-first = laid-word 1 (omega (arith, line-size z l))
 
   pub laid-positions : getD table (68 * l + 2) 0 ≡ positionsAt z l
-  unfolding lineWords
+  unfolding laidWords
   laid-positions = laid-word 2 (omega (arith, line-size z l)) ∙ starts-positions (lengthAt z l) (clueAt z l)
 
   pub laid-start : (b : ℕ) → b < length (clueAt z l) → getD table (68 * l + (4 + b)) 0 ≡ at (packed gap (clueAt z l)) b .start
-  unfolding lineWords
+  unfolding laidWords
   laid-start b h =
       let e : 4 + b ≡ suc (suc (2 + b)) = omega arith in
       laid-word (4 + b) (omega (arith, line-size z l)) ∙ rw e (starts-start (lengthAt z l) (clueAt z l) b)

@@ -26,13 +26,13 @@ use Rattle.lines.proofs.Checks.{proper-clue, size-within}
 use Rattle.lines.proofs.ClueWords.{starts-size, starts-positions, positions-bound}
 use Rattle.puzzles.specs.Puzzle.{Puzzle, width, height, lines, cluesWords, clueAt, lengthAt, cellsAt}
 use Rattle.puzzles.specs.Checks.{puzzle, Sectioned, spaces}
-use Rattle.boards.specs.Table.{beginAt, firstAt, positionsAt, lineWords, LineLaid, Laid, Standing}
+use Rattle.boards.specs.Table.{beginAt, firstAt, positionsAt, laidWords, LineLaid, Laid, Standing}
 use Rattle.puzzles.proofs.Accepting.{walked-is, FineLine, fine-lines}
 use Rattle.boards.proofs.Beginning.{Here, clue-here, begin-next, begin-cells}
 use Rattle.puzzles.proofs.Lines.{spaces-fit, spaces-short}
 
-pub line-size : (z : Puzzle) (l : ℕ) → length (lineWords z l) ≡ 4 + length (clueAt z l)
-unfolding lineWords
+pub line-size : (z : Puzzle) (l : ℕ) → length (laidWords z l) ≡ 4 + length (clueAt z l)
+unfolding laidWords
 line-size z l = omega (arith, starts-size (lengthAt z l) (clueAt z l))
 
 pub variables-most : (z : Puzzle) (l : ℕ) → length (clueAt z l) ≤ 64 → lengthAt z l ≤ 64 → length (clueAt z l) * positionsAt z l ≤ 4160
@@ -115,8 +115,8 @@ module _ (ws : List ℕ) (S : Sectioned ws) (l : ℕ) (h : l < lines (puzzle ws)
           pub lay-fits : minSpace gap (clueAt z l) ≤ cells
           lay-fits = ltb-false _ _ (refuse-accepted (ltb cells (minSpace gap (clueAt z l))) _ _ _ (accepted-checks called r .1 ∙ line-checks) .0)
 
-          pub lay-wrote : Wrote (lineWords z l) table (68 * l) (putMid to (length stored - to) stored tail) (to + used)
-          unfolding lineWords
+          pub lay-wrote : Wrote (laidWords z l) table (68 * l) (putMid to (length stored - to) stored tail) (to + used)
+          unfolding laidWords
           lay-wrote = rw (← P .at-is, ← P .first-is, ← ce) (wrote-then (omega (arith, room .low)) W (wrote-tail (accepted-wrote called r)))
 
           pub lay-kept : length (putMid to (length stored - to) stored tail) ≡ length table
@@ -172,7 +172,7 @@ module _ (ws : List ℕ) (S : Sectioned ws) {table : List ℕ} {l at first : ℕ
       )
 
   pub laying-next : 8704 ≤ length table → {cells : ℕ} → cells ≡ lengthAt (puzzle ws) l → {a : Answer} {v : ℕ} → a ≡ Accepted v → Told (puzzle ws) l cells a → {table′ : List ℕ}
-      → (minSpace gap (clueAt (puzzle ws) l) ≤ cells → (next : ℕ) × Wrote (lineWords (puzzle ws) l) table (68 * l) table′ next)
+      → (minSpace gap (clueAt (puzzle ws) l) ≤ cells → (next : ℕ) × Wrote (laidWords (puzzle ws) l) table (68 * l) table′ next)
       → {n w at′ : ℕ} → n ≡ getD ws at 0 → w ≡ width (puzzle ws) → at′ ≡ at + 1 + 2 * n + cond (eqb (l + 1) w) 1 0
       → LayingLines (puzzle ws) table′ (l + 1) at′ (first + v)
   unfolding firstAt
@@ -185,7 +185,7 @@ module _ (ws : List ℕ) (S : Sectioned ws) {table : List ℕ} {l at first : ℕ
       let w = wrote fc .1 in
       let m : n ≡ length (clueAt (puzzle ws) l) = ne ∙ R .count-is in
       let low : 68 * l ≤ length table = omega (arith, R .low) in
-      let fine : (j : ℕ) → j < l → length (lineWords (puzzle ws) j) ≤ 68 = λ j g. omega (arith, line-size (puzzle ws) j, line-fine ws S j (omega arith) .few) in
+      let fine : (j : ℕ) → j < l → length (laidWords (puzzle ws) j) ≤ 68 = λ j g. omega (arith, line-size (puzzle ws) j, line-fine ws S j (omega arith) .few) in
       let e : l + 1 ≡ suc l = omega arith in
       record {
         within = omega arith;
@@ -197,7 +197,7 @@ module _ (ws : List ℕ) (S : Sectioned ws) {table : List ℕ} {l at first : ℕ
         };
         fit = λ j g. elim (decLt j l) [ yes k ↦ L .fit j k | no k ↦ let q : j ≡ l = omega arith in rw q f ];
         laid = λ j g. elim (decLt j l) [
-          | yes k ↦ wrote-before low w (68 * j) (length (lineWords (puzzle ws) j)) (omega (arith, fine j k)) ∙ L .laid j k
+          | yes k ↦ wrote-before low w (68 * j) (length (laidWords (puzzle ws) j)) (omega (arith, fine j k)) ∙ L .laid j k
           | no k ↦ let q : j ≡ l = omega arith in rw q (wrote-there low w)
         ];
       }

@@ -23,12 +23,12 @@ unfoldable pub firstAt : Puzzle → ℕ → ℕ
 firstAt z zero = 1
 firstAt z (suc l) = firstAt z l + length (clueAt z l) * positionsAt z l
 
-unfoldable pub lineWords : Puzzle → ℕ → List ℕ
-lineWords z l = beginAt z l ∷ firstAt z l ∷ startsWords (lengthAt z l) (words (clueAt z l))
+unfoldable pub laidWords : Puzzle → ℕ → List ℕ
+laidWords z l = beginAt z l ∷ firstAt z l ∷ startsWords (lengthAt z l) (words (clueAt z l))
 
 -- the line's words stand at its place in the table
 abbrev pub LineLaid : Puzzle → List ℕ → ℕ → Type 0
-LineLaid z table l = take (length (lineWords z l)) (drop (68 * l) table) ≡ lineWords z l
+LineLaid z table l = take (length (laidWords z l)) (drop (68 * l) table) ≡ laidWords z l
 
 abbrev pub Laid : Puzzle → List ℕ → Type 0
 Laid z table = (l : ℕ) → l < lines z → LineLaid z table l

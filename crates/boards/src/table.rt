@@ -15,7 +15,7 @@ ghost use Rattle.refusals.specs.Verdict.{accepted, refuse};
 ghost use Rattle.lines.specs.Clue.{gap, minSpace};
 ghost use Rattle.puzzles.specs.Puzzle as P;
 ghost use Rattle.puzzles.specs.Checks.{puzzle, Sectioned, spaces};
-ghost use Rattle.boards.specs.Table.{firstAt, positionsAt, lineWords, Laid, Standing};
+ghost use Rattle.boards.specs.Table.{firstAt, positionsAt, laidWords, Laid, Standing};
 
 // The cells of line l.
 fn line_length(l: usize, width: usize, height: usize) -> usize
@@ -45,7 +45,7 @@ fn lay_line(
     requires { ⌜ Standing (puzzle (now words)) l at first ⌝ }
     requires { ⌜ (l < P.lines (puzzle (now words))) × (cells ≡ P.lengthAt (puzzle (now words)) l) × (8704 ≤ length (now table)) ⌝ }
     ensures { λ r. ⌜ told r ≡ refuse (ltb cells (minSpace gap (P.clueAt (puzzle (now (words .entry))) l))) 6 l (accepted (length (P.clueAt (puzzle (now (words .entry))) l) * positionsAt (puzzle (now (words .entry))) l)) ⌝ }
-    ensures { λ r. ⌜ (minSpace gap (P.clueAt (puzzle (now (words .entry))) l) ≤ cells → (next : ℕ) × Wrote (lineWords (puzzle (now (words .entry))) l) (now (table .entry)) (68 * l) (now (table .exit)) next) ⌝ }
+    ensures { λ r. ⌜ (minSpace gap (P.clueAt (puzzle (now (words .entry))) l) ≤ cells → (next : ℕ) × Wrote (laidWords (puzzle (now (words .entry))) l) (now (table .entry)) (68 * l) (now (table .exit)) next) ⌝ }
 {
     let n = wide(words[at]);
     let to = put_pair(at as u32, first as u32, table, 68 * l);

@@ -17,9 +17,9 @@ use Rattle.boards.specs.declared.board.Board.{Board}
 use Rattle.numbering.specs.Variables.{hues}
 use Rattle.cells.specs.declared.rule.Rule.{Rule}
 use Rattle.cells.specs.declared.section.Ask.{Ask}
-use Rattle.cells.specs.Cells.{ofColor, byColumn, ofCells}
+use Rattle.cells.specs.Cells.{ofColor, byColumn, ofCells, ofCell}
 use Rattle.cells.specs.Asked.{asked}
-use Rattle.cells.specs.Given.{Given, ofCell}
+use Rattle.cells.specs.Given.{Given}
 use Rattle.cells.proofs.BoardCells.{cellAt, given-shows, cell-is, cell-variables}
 
 -- the column and the row of a cell

@@ -39,8 +39,11 @@ unfoldable pub byColumn : Puzzle → (ℕ → ℕ → List Clause) → List Clau
 byColumn z f = each (width z) (λ x. each (height z) (λ y. f x y))
 
 -- 7, 8: per cell, colour
+abbrev pub ofCell : Puzzle → Rule → ℕ → ℕ → List Clause
+ofCell z rule x y = each (hues z) (ofColor z rule x y)
+
 abbrev pub ofCells : Puzzle → Rule → List Clause
-ofCells z rule = byColumn z (λ x y. each (hues z) (ofColor z rule x y))
+ofCells z rule = byColumn z (ofCell z rule)
 
 -- 9: per cell, colour pair: both negated
 abbrev pub pointOnce : Puzzle → List Clause

@@ -2,8 +2,6 @@
 use mathlib.Core.Path.{_≡_}
 use mathlib.Core.List.{List}
 use Prim.Native.Nat.{ℕ}
-use Rattle.lists.specs.Each.{each}
-use Rattle.sections.specs.Sections.{Clause}
 use Rattle.puzzles.specs.Puzzle.{Puzzle}
 use Rattle.puzzles.specs.Checks.{puzzle, colors}
 use Rattle.puzzles.specs.Good.{Good}
@@ -11,8 +9,6 @@ use Rattle.boards.specs.Reading.{Stands}
 use Rattle.boards.specs.declared.board.Board.{Board}
 use Rattle.numbering.specs.Variables as N
 use Rattle.numbering.specs.Tables.{Ready}
-use Rattle.cells.specs.declared.rule.Rule.{Rule}
-use Rattle.cells.specs.Cells.{ofColor}
 
 -- a board of k colours, of an accepted puzzle
 pub record Shows (board : Board) (k : ℕ) (z : Puzzle) : Type 0 where
@@ -25,7 +21,3 @@ pub record Given (ws table : List ℕ) (board : Board) (palette : List ℕ) : Ty
   pub ready : Ready ws table
   pub stands : Stands board (puzzle ws)
   pub palette-is : palette ≡ N.palette (colors (puzzle ws))
-
--- of one cell, each colour
-abbrev pub ofCell : Puzzle → Rule → ℕ → ℕ → List Clause
-ofCell z rule x y = each (N.hues z) (ofColor z rule x y)

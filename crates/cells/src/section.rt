@@ -15,9 +15,9 @@ ghost use Rattle.sections.specs.Sections.{clausesWords, sectionWords};
 ghost use Rattle.puzzles.specs.Puzzle as P;
 ghost use Rattle.puzzles.specs.Checks.{puzzle};
 ghost use Rattle.numbering.specs.Tables.{Ready};
-ghost use Rattle.cells.specs.Cells.{ofCells};
+ghost use Rattle.cells.specs.Cells.{ofCells, ofCell};
 ghost use Rattle.cells.specs.Asked.{asked};
-ghost use Rattle.cells.specs.Given.{Given, ofCell};
+ghost use Rattle.cells.specs.Given.{Given};
 
 // What is asked of a line: the rule, the colour, and the variable of the cell's colour.
 pub struct Ask {

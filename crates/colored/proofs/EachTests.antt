@@ -16,8 +16,8 @@ use Rattle.puzzles.specs.Checks.{puzzle}
 use Rattle.boards.specs.declared.board.Board.{Board}
 use Rattle.numbering.specs.Variables.{hues}
 use Rattle.cells.specs.declared.rule.Rule.{Rule}
-use Rattle.cells.specs.Cells.{ofColor, precomputed}
-use Rattle.cells.specs.Given.{Given, ofCell}
+use Rattle.cells.specs.Cells.{ofColor, precomputed, ofCell}
+use Rattle.cells.specs.Given.{Given}
 use Rattle.cells.proofs.BoardCells.{cellAt, given-shows}
 use Rattle.cells.proofs.ByColumn.{both, askOf, color-is}
 use Rattle.points.specs.Points.{columnOnce, ofMask, ofMasks}

@@ -21,9 +21,9 @@ ghost use Rattle.numbering.specs.Variables.{lineAt, variables};
 ghost use Rattle.numbering.specs.Tables.{Ready};
 ghost use Rattle.truth.specs.Truth.{value};
 ghost use Rattle.truth.specs.Tested.{tested, said, Countable};
-ghost use Rattle.cells.specs.Cells.{covering, ruled, ofCells};
+ghost use Rattle.cells.specs.Cells.{covering, ruled, ofCells, ofCell};
 ghost use Rattle.cells.specs.Asked.{asked};
-ghost use Rattle.cells.specs.Given.{Given, ofCell};
+ghost use Rattle.cells.specs.Given.{Given};
 ghost use Rattle.cells.specs.declared.rule.Rule.the-variants.{Color};
 ghost use Rattle.colored.specs.Models.{Of, spares};
 

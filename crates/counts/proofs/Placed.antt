@@ -27,7 +27,7 @@ use Rattle.numbering.proofs.SoundLines.{sound-clash, sound-distance}
 use Rattle.placement.specs.Placement.{blockPositions, blockOnce, nonOverlap, ruled, ofLines}
 use Rattle.placement.specs.declared.rule.Rule.{Rule}
 use Rattle.placement.specs.declared.rule.Rule.the-variants.{Positions, Once, Overlap}
-use Rattle.counts.specs.Formulas.{blocksIn, onceIn, overlapPair, overlapAt, overlapIn, measured, overLines}
+use Rattle.counts.specs.Formulas.{onceIn, overlapPair, overlapAt, overlapIn, measured, overLines}
 use Rattle.counts.specs.declared.measure.Measure.{Measure}
 use Rattle.counts.specs.declared.measure.Measure.the-variants as M
 use Rattle.counts.specs.declared.measure.Measure.the-variants.{Blocks}
@@ -58,7 +58,7 @@ behind d i p h l =
     rw e (omega (arith, sum-plus m (p - m) (λ j. cond (leb (j + d) i) 1 0), low, high, sum-constant m 1, sum-constant (p - m) 0))
 
 module _ {L : Line} (S : Sound L) where
-  positions-length : length (blockPositions L) ≡ blocksIn L
+  positions-length : length (blockPositions L) ≡ many L
   unfolding blockPositions
   positions-length = length-tab (many L) _
 

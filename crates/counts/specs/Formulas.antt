@@ -2,7 +2,7 @@
 use mathlib.Core.Bool.{cond}
 use Prim.Native.Nat.{ℕ, suc, _+_, _-_, _*_, _/_}
 use lib.ListN.{length, getD}
-use Rattle.lists.specs.Each.{sum}
+use Rattle.lists.specs.Each.{sum, sumPairs}
 use Rattle.bits.specs.Bits.{bit}
 use Rattle.lines.specs.Clue.{gap}
 use Rattle.lines.specs.Arrangement.{at, distance}
@@ -12,10 +12,6 @@ use Rattle.puzzles.specs.Checks.{colors}
 use Rattle.numbering.specs.Variables.{Line, lineAt, many, palette, hues}
 use Rattle.counts.specs.declared.measure.Measure.{Measure}
 use Rattle.counts.specs.declared.measure.Measure.the-variants.{Blocks, Once, Overlap, Space}
-
--- 1 and 2: the blocks
-abbrev pub blocksIn : Line → ℕ
-blocksIn L = many L
 
 -- 3 and 4: the sum of p(p-1)/2
 unfoldable pub onceIn : Line → ℕ
@@ -27,12 +23,12 @@ overlapPair L a b =
     let n = L .positions - distance gap (at (L .runs) a) (at (L .runs) b) in
     n * (n + 1) / 2
 
+unfoldable pub overlapIn : Line → ℕ
+overlapIn L = sumPairs (many L) (overlapPair L)
+
 -- those of block a with each later one
 unfoldable pub overlapAt : Line → ℕ → ℕ
 overlapAt L a = sum (many L - suc a) (λ j. overlapPair L a (suc a + j))
-
-unfoldable pub overlapIn : Line → ℕ
-overlapIn L = sum (many L) (overlapAt L)
 
 -- the cells that its blocks have
 abbrev pub cellsIn : Line → ℕ
@@ -43,7 +39,8 @@ unfoldable pub spaceIn : Line → ℕ
 spaceIn L = sum (many L) (λ b. L .positions * at (L .runs) b .size)
 
 unfoldable pub measured : Measure → Line → ℕ
-measured Blocks L = blocksIn L
+-- 1 and 2: the blocks
+measured Blocks L = many L
 measured Once L = onceIn L
 measured Overlap L = overlapIn L
 measured Space L = spaceIn L
@@ -64,10 +61,11 @@ spaceCount z = overLines z Space 0 (lines z)
 abbrev pub pointCount : Puzzle → ℕ
 pointCount z = width z * height z * (hues z * (hues z - 1) / 2)
 
--- 10: per cell 1 if a solved colour, k if solved blank, else its excluded colours
+-- the colours of K that a mask excludes
 unfoldable pub excluded : ℕ → ℕ → ℕ
 excluded K mask = sum (length (palette K)) (λ r. cond (bit mask (getD (palette K) r 0)) 0 1)
 
+-- 10: per cell 1 if a solved colour, k if solved blank, else its excluded colours
 unfoldable pub unitsBy : ℕ → ℕ → ℕ
 unitsBy K mask = cond (solved mask) (cond (bit mask 0) (length (palette K)) 1) (excluded K mask)
 

@@ -6,7 +6,7 @@ use lib.ListN.{length, getD}
 use Rattle.sections.specs.Sections.{Clause}
 use Rattle.dimacs.specs.Text.{digits, text}
 
--- the number that digits are, after those before that were n
+-- the number that digits are, read after digits of the number n
 unfoldable pub valueFrom : ℕ → List ℕ → ℕ
 valueFrom n [] = n
 valueFrom n (d ∷ ds) = valueFrom (10 * n + (d - 48)) ds

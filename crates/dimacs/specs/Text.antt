@@ -19,7 +19,7 @@ unfoldable pub digitsWithin : ℕ → ℕ → List ℕ
 digitsWithin zero n = []
 digitsWithin (suc k) n = cond (ltb n 10) (digit n ∷ []) (digitsWithin k (n / 10) ++ (digit (n % 10) ∷ []))
 
--- a number has no more digits than it counts, and 0 has one
+-- n has at most n digits, and 0 has one, so suc n steps are enough
 unfoldable pub digits : ℕ → List ℕ
 digits n = digitsWithin (suc n) n
 

@@ -11,15 +11,15 @@ use Rattle.lists.proofs.Eaches.{length-tab}
 use Rattle.lists.proofs.Writing.{wrote-after}
 use Rattle.lists.proofs.Emitting.{Emitting, emit-first, emit-done}
 use Rattle.puzzles.specs.Puzzle.{cellsWords}
-use Rattle.grids.specs.Mask.{cellColors, cellsMask}
+use Rattle.grids.specs.Mask.{gridColors, cellsMask}
 
-pub mask-blank : (grid : List ℕ) → cellColors grid ≡ 1 → 3 ≡ cellsMask grid
+pub mask-blank : (grid : List ℕ) → gridColors grid ≡ 1 → 3 ≡ cellsMask grid
 unfolding cellsMask
-mask-blank grid e = rw (eq-eqb (cellColors grid) 1 e)
+mask-blank grid e = rw (eq-eqb (gridColors grid) 1 e)
 
-pub mask-colors : (grid : List ℕ) → (cellColors grid ≡ 1 → ⊥) → cellColors grid ≡ cellsMask grid
+pub mask-colors : (grid : List ℕ) → (gridColors grid ≡ 1 → ⊥) → gridColors grid ≡ cellsMask grid
 unfolding cellsMask
-mask-colors grid n = rw (ne-eqb (cellColors grid) 1 n)
+mask-colors grid n = rw (ne-eqb (gridColors grid) 1 n)
 
 -- ---- the loop that writes them
 

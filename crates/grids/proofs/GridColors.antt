@@ -21,7 +21,7 @@ use Rattle.puzzles.specs.Colors.{withLines, colorSet}
 use Rattle.puzzles.proofs.ColorSets.{ofBlocks, lines-collect, set-none, set-some}
 use Rattle.grids.specs.Grid.{row, column, rowClues}
 use Rattle.grids.specs.Sized.{Sized}
-use Rattle.grids.specs.Mask.{cellColors, cellsMask}
+use Rattle.grids.specs.Mask.{gridColors, cellsMask}
 use Rattle.grids.proofs.Cells.{row-length, row-cell, column-length, column-cell, place-in}
 use Rattle.grids.proofs.CellMasks.{mask-blank, mask-colors}
 
@@ -105,10 +105,10 @@ module _ {w h : ℕ} {grid : List ℕ} (S : Sized w h grid) (c : ℕ) where
       let e = bit-row p l C in
       rw (set-some (rowClues w h grid) (λ z. omega (arith, bit-some (withLines 0 (rowClues w h grid)) c e))) e
 
-  cell-bit : c < 32 → Seen grid c → bit (cellColors grid) c ≡ true
+  cell-bit : c < 32 → Seen grid c → bit (gridColors grid) c ≡ true
   cell-bit l C = cells-collect .puts 1 grid c l (record { at = C .cell; below = C .within; holds = C .color-is })
 
-  bit-cell : 0 < c → bit (cellColors grid) c ≡ true → Seen grid c
+  bit-cell : 0 < c → bit (gridColors grid) c ≡ true → Seen grid c
   bit-cell p e = ⊎-elim
       (λ z. absurd (omega (arith, only-blank c z)))
       (λ s. record { cell = s .at; within = s .below; color-is = s .holds })
@@ -117,11 +117,11 @@ module _ {w h : ℕ} {grid : List ℕ} (S : Sized w h grid) (c : ℕ) where
 -- ---- the mask that the walk over the cells finds
 
 module _ {w h : ℕ} {grid : List ℕ} (S : Sized w h grid) where
-  blank-bit : bit (cellColors grid) 0 ≡ true
+  blank-bit : bit (gridColors grid) 0 ≡ true
   blank-bit = cells-collect .keeps 1 grid 0 (bit-power 0 0)
 
-  colors-are : cellColors grid ≡ withBit (withLines 0 (rowClues w h grid)) 0
-  colors-are = same-bits (cellColors grid) (withBit W 0) (cells-collect .within 1 grid (omega arith)) (with-within W 0 (lines-collect .within 0 (rowClues w h grid) (omega arith)))
+  colors-are : gridColors grid ≡ withBit (withLines 0 (rowClues w h grid)) 0
+  colors-are = same-bits (gridColors grid) (withBit W 0) (cells-collect .within 1 grid (omega arith)) (with-within W 0 (lines-collect .within 0 (rowClues w h grid) (omega arith)))
       (λ k l e. elim (decLt 0 k) [
         | yes p ↦ with-keeps W 0 k (bit-row S k p l (bit-cell S k p e))
         | no p ↦ let z : k ≡ 0 = omega arith in rw z (with-same W 0 (omega arith))
@@ -132,7 +132,7 @@ module _ {w h : ℕ} {grid : List ℕ} (S : Sized w h grid) where
       W = withLines 0 (rowClues w h grid)
 
   -- no cell has a colour where only bit 0 is found
-  colorless : cellColors grid ≡ 1 → withLines 0 (rowClues w h grid) ≡ 0
+  colorless : gridColors grid ≡ 1 → withLines 0 (rowClues w h grid) ≡ 0
   colorless e = same-bits (withLines 0 (rowClues w h grid)) 0 (lines-collect .within 0 (rowClues w h grid) (omega arith)) (omega arith)
       (λ k l b.
       let r = row-bit S k b in

@@ -1,16 +1,16 @@
 -- A grid's puzzle words, section by section, as they are counted and written.
 use mathlib.Core.Path.{_≡_, ap, subst, _∙_}
 use mathlib.Core.List.{List, _++_}
-use Prim.Native.Nat.{ℕ, _+_, _≤_}
+use Prim.Native.Nat.{ℕ, _+_, _≤_, _*_}
 use native.Mathlib.Omega.{arith}
 use native.Mathlib.Nat.{mul-comm}
-use lib.ListN.{length, getD, length-append}
+use lib.ListN.{length, length-append}
 use Rattle.lists.specs.Each.{tab}
 use Rattle.lists.specs.Wrote.{Wrote}
 use Rattle.lists.proofs.Eaches.{length-tab, tab-same}
 use Rattle.lists.proofs.Writing.{wrote-then}
 use Rattle.lines.specs.Line.{runs}
-use Rattle.lines.specs.Strided.{strided}
+use Rattle.lines.proofs.LineCells.{strided-is}
 use Rattle.puzzles.specs.Puzzle.{linesWords, cellsWords, puzzleWords}
 use Rattle.grids.specs.Grid.{row, column, rowClues, columnClues, gridPuzzle, gridWords}
 use Rattle.grids.specs.Sized.{Sized, Lined, Laid, laidClues}
@@ -44,12 +44,12 @@ module _ {w h : ℕ} {grid : List ℕ} (S : Sized w h grid) where
   }
 
   columns-clues : laidClues w 1 w h grid ≡ columnClues w h grid
-  unfolding laidClues columnClues strided column
-  columns-clues = tab-same w _ _ (λ x i. ap runs (tab-same h _ _ (λ y j. ap (λ (k : ℕ). getD grid k 0) (omega arith))))
+  unfolding laidClues columnClues column
+  columns-clues = tab-same w _ _ (λ x i. ap runs (strided-is (x * 1) w h grid (λ y. y * w + x) (λ y j. omega arith)))
 
   rows-clues : laidClues h w 1 w grid ≡ rowClues w h grid
-  unfolding laidClues rowClues strided row
-  rows-clues = tab-same h _ _ (λ y j. ap runs (tab-same w _ _ (λ x i. ap (λ (k : ℕ). getD grid k 0) (omega arith))))
+  unfolding laidClues rowClues row
+  rows-clues = tab-same h _ _ (λ y j. ap runs (strided-is (y * w) 1 w grid (λ x. y * w + x) (λ x i. omega arith)))
 
   -- the sections, as they are written
   grid-words : gridWords w h grid ≡ linesWords (laidClues w 1 w h grid) ++ (linesWords (laidClues h w 1 w grid) ++ cellsWords (tab (length grid) (λ _. cellsMask grid)))

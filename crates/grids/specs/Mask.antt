@@ -7,12 +7,12 @@ use lib.Dec.{eqb}
 use Rattle.bits.specs.Bits.{withBit}
 
 -- bit 0 and the colours of the cells
-abbrev pub cellColors : List ℕ → ℕ
-cellColors grid = foldl withBit 1 grid
+abbrev pub gridColors : List ℕ → ℕ
+gridColors grid = foldl withBit 1 grid
 
 -- and where no cell has a colour, bits 0 and 1
 unfoldable pub cellsMask : List ℕ → ℕ
-cellsMask grid = cond (eqb (cellColors grid) 1) 3 (cellColors grid)
+cellsMask grid = cond (eqb (gridColors grid) 1) 3 (gridColors grid)
 
 -- every cell is blank or has a colour
 pub record Colored (grid : List ℕ) : Type 0 where

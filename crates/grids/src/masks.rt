@@ -6,12 +6,12 @@ ghost use lib.ListN.{length};
 ghost use Rattle.lists.specs.Each.{tab};
 ghost use Rattle.lists.specs.Wrote.{Wrote};
 ghost use Rattle.puzzles.specs.Puzzle.{cellsWords};
-ghost use Rattle.grids.specs.Mask.{Colored, cellColors, cellsMask};
+ghost use Rattle.grids.specs.Mask.{Colored, gridColors, cellsMask};
 
 // Bit 0 and the colours of the cells.
 fn cell_colors(grid: &[u8]) -> u32
     requires { ⌜ Colored (now grid) ⌝ }
-    ensures { λ r. ⌜ r ≡ cellColors (now (grid .entry)) ⌝ }
+    ensures { λ r. ⌜ r ≡ gridColors (now (grid .entry)) ⌝ }
 {
     let mut mask = 1;
     for i in 0..grid.len() {

@@ -67,7 +67,7 @@ Dimacs variables sections ws out = Outcome (wordChecks variables sections ws) (t
 abbrev pub Determined : {A : Type 0} → Promise A → Type 0
 Determined {A} promise = (n p m q : ℕ) (out out′ : List A) → promise n p out → promise m q out′ → (n ≡ m) × (p ≡ q) × (out ≡ out′)
 
--- so do all thirteen
+-- all thirteen are determined
 pub record EachDetermined : Type 0 where
   pub two-powers : (mask : ℕ) (out : List ℕ) → Determined (TwoPowers mask out)
   pub from-two-powers : (ws : List ℕ) (n m : ℕ) → FromTwoPowers ws n → FromTwoPowers ws m → n ≡ m

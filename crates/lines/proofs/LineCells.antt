@@ -8,9 +8,10 @@ use lib.ListN.{length, drop, getD, length-append, drop-of-length-le}
 use lib.Dec.{eqb}
 use lib.Seq.{ext-getD}
 use borrow.Author.Tests.{eq-eqb, ne-eqb, eqb-true}
+use Rattle.lists.specs.Each.{tab}
 use Rattle.lists.specs.Wrote.{Wrote}
 use Rattle.lists.proofs.Dropping.{drop-one}
-use Rattle.lists.proofs.Eaches.{length-tab, getD-tab}
+use Rattle.lists.proofs.Eaches.{length-tab, getD-tab, tab-same}
 use Rattle.lists.proofs.Writing.{Filling, fill-first, fill-as, fill-room, fill-next, fill-done}
 use Rattle.lines.specs.Clue.{Block, words}
 use Rattle.lines.specs.Begins.{begins}
@@ -162,6 +163,11 @@ module _ (from step n : ℕ) (cells : List ℕ) where
   strided-cell i h = getD-tab n _ 0 i h
 
 -- a line of its own
+-- its cells by another way to say their places
+pub strided-is : (from step n : ℕ) (cells : List ℕ) (f : ℕ → ℕ) → ((t : ℕ) → t < n → t * step + from ≡ f t) → strided from step n cells ≡ tab n (λ t. getD cells (f t) 0)
+unfolding strided
+strided-is from step n cells f e = tab-same n _ _ (λ t h. ap (λ (k : ℕ). getD cells k 0) (e t h))
+
 pub strided-whole : (line : List ℕ) → strided 0 1 (length line) line ≡ line
 strided-whole line = ext-getD 0 _ line (strided-length 0 1 (length line) line) (λ i h.
     strided-cell 0 1 (length line) line i (omega (arith, strided-length 0 1 (length line) line))

@@ -35,7 +35,7 @@ moved r i = record { start = r .start + i; size = r .size; color = r .color }
 abbrev pub covers : Run → ℕ → Bool
 covers r t = leb (r .start) t && ltb t (end r)
 
--- block a at position i, and a later block b at position j
+-- an earlier run is in conflict with a later one
 abbrev pub clash : (ℕ → ℕ → ℕ) → Run → Run → Bool
 clash gap r q = conflict gap (r .color) (end r) (q .color) (q .start)
 

@@ -33,7 +33,7 @@ blocks (size ∷ color ∷ ws) = record { size = size; color = color } ∷ block
 unfoldable pub gap : ℕ → ℕ → ℕ
 gap c d = cond (eqb c d) 1 0
 
--- the blocks, each as early as it can be, after a block of colour c that ended at `at` (at the line's begin: 0 and 0)
+-- the blocks, each as early as it can be, after a block of colour c that ended at `at` (at the beginning of the line: 0 and 0)
 unfoldable pub packedFrom : (ℕ → ℕ → ℕ) → ℕ → ℕ → List Block → List Run
 packedFrom gap at c [] = []
 packedFrom gap at c (b ∷ bs) =

@@ -7,6 +7,7 @@ use lib.Dec.{eqb, ltb}
 use Rattle.literals.specs.declared.Read.{Read}
 use Rattle.literals.specs.declared.Read.the-variants.{Good, Wrong}
 
+-- the largest variable of a literal
 abbrev pub largest : ℕ
 largest = 1000000
 

@@ -1,5 +1,5 @@
 -- A model is accepted exactly when it is one and all clauses are true; and what is then shown is a picture.
-use mathlib.Core.Path.{_≡_, refl, sym}
+use mathlib.Core.Path.{_≡_, refl, sym, _∙_}
 use mathlib.Core.Bool.{Bool, true, false, not, cond}
 use mathlib.Core.List.{List}
 use Prim.Native.Nat.{ℕ, zero, suc, _+_, _*_, _≤_, _<_}
@@ -10,12 +10,12 @@ use borrow.Author.Tests.{eq-eqb, le-ltb, eqb-true, ltb-false}
 use Rattle.lists.specs.Each.{tab, sum}
 use Rattle.lists.proofs.Eaches.{length-tab, getD-tab}
 use Rattle.lists.proofs.Tests.{not-false}
-use Rattle.refusals.specs.Verdict.{accepted}
+use Rattle.refusals.specs.Verdict.{accepted, refuse, andThen}
 use Rattle.refusals.proofs.Answering.{refuse-accepted, then-accepted, first-accepted}
 use Rattle.refusals.proofs.Offending.{none-off, off-none}
 use Rattle.truth.specs.Truth.{Assignment, value}
 use Rattle.truth.specs.Tested.{tested}
-use Rattle.truth.proofs.AllTested.{tested-true, true-tested}
+use Rattle.truth.proofs.AllTested.{tested-first, tested-true, true-tested}
 use Rattle.puzzles.specs.Puzzle.{Puzzle, width, height}
 use Rattle.puzzles.specs.Checks.{puzzle}
 use Rattle.numbering.specs.Variables.{hues, cellFirst, variables, firstCell}
@@ -25,7 +25,7 @@ use Rattle.pictures.specs.Pictures.{Solves, Model}
 use Rattle.pictures.proofs.EachFamily.{solved-said}
 use Rattle.pictures.proofs.ShownGrid.{each-cell}
 use Rattle.pictures.proofs.Theorem.{condition-3}
-use Rattle.models.specs.Models.{trues, byteChecks, cellChecks, modelChecks}
+use Rattle.models.specs.Models.{trues, valueChecks, cellChecks, modelChecks}
 use Rattle.models.specs.Accepted.{ModelsAccepted, PicturesShown}
 
 -- ---- no cell has two colours
@@ -68,12 +68,16 @@ module _ (z : Puzzle) (β : Assignment) where
 -- ---- what passes
 
 module _ (z : Puzzle) (model : List ℕ) where
-  pub accepted-model : {m : ℕ} → accepted m ≡ modelChecks z model → Model z model × Solves z (value model)
+  order : modelChecks z model
+      ≡ refuse (not (eqb (length model) (variables z))) 13 (variables z) (andThen (valueChecks model) (andThen (tested (value model) 0 (clauses z)) (cellChecks (value model) (firstCell z) (width z * height z) (hues z))))
   unfolding modelChecks
+  order = rw (tested-first (value model) 0 (clauses z))
+
+  pub accepted-model : {m : ℕ} → accepted m ≡ modelChecks z model → Model z model × Solves z (value model)
   accepted-model e =
-      let a = refuse-accepted (not (eqb (length model) (variables z))) 13 (variables z) _ e in
-      let b = first-accepted (byteChecks model) _ (a .1) in
-      let d = first-accepted (tested (value model) 0 (clauses z)) _ (then-accepted (byteChecks model) _ (a .1)) in (
+      let a = refuse-accepted (not (eqb (length model) (variables z))) 13 (variables z) _ (e ∙ order) in
+      let b = first-accepted (valueChecks model) _ (a .1) in
+      let d = first-accepted (tested (value model) 0 (clauses z)) _ (then-accepted (valueChecks model) _ (a .1)) in (
         record {
           size = eqb-true (length model) (variables z) (not-false (eqb (length model) (variables z)) (a .0));
           bytes = λ i l. ltb-false 1 _ (none-off 0 (λ b. ltb 1 b) 14 0 model (b .1) i l);
@@ -82,10 +86,9 @@ module _ (z : Puzzle) (model : List ℕ) where
       )
 
   model-accepted : Model z model → Solves z (value model) → (m : ℕ) × (accepted m ≡ modelChecks z model)
-  unfolding modelChecks
   model-accepted M s = (
     0,
-    rw (eq-eqb (length model) (variables z) (M .size), off-none 0 (λ b. ltb 1 b) 14 0 model (λ i l. le-ltb 1 _ (M .bytes i l)), ← true-tested (value model) 0 (clauses z) s)
+    rw (order, eq-eqb (length model) (variables z) (M .size), off-none 0 (λ b. ltb 1 b) 14 0 model (λ i l. le-ltb 1 _ (M .bytes i l)), ← true-tested (value model) 0 (clauses z) s)
         (sym (one-passes z (value model) (solved-said z (value model) .0 s .one-color))),
   )
 

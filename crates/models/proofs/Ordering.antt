@@ -14,6 +14,7 @@ use Rattle.refusals.specs.declared.Answer.the-variants.{Accepted, Refused}
 use Rattle.refusals.proofs.Answering.{handed-up, goes-on}
 use Rattle.truth.specs.Truth.{value}
 use Rattle.truth.specs.Tested.{tested}
+use Rattle.truth.proofs.AllTested.{tested-first}
 use Rattle.puzzles.specs.Puzzle.{Puzzle, width, height}
 use Rattle.puzzles.specs.Checks.{puzzle}
 use Rattle.boards.specs.declared.board.Board.{Board}
@@ -22,7 +23,7 @@ use Rattle.numbering.proofs.Bounds.{cells-most, cells-first, hues-most}
 use Rattle.cells.specs.Given.{Given}
 use Rattle.cells.proofs.BoardCells.{given-shows}
 use Rattle.counts.specs.Families.{clauses}
-use Rattle.models.specs.Models.{byteChecks, cellChecks, modelChecks}
+use Rattle.models.specs.Models.{valueChecks, cellChecks, modelChecks}
 
 module _ {ws table : List ℕ} {board : Board} {colors : List ℕ} (G : Given ws table board colors) where
   abbrev z : Puzzle
@@ -63,19 +64,19 @@ module _ {ws table : List ℕ} {board : Board} {colors : List ℕ} (G : Given ws
     other-length e d = rw (e, ne-eqb (length model) (variables z) (rw e at d))
 
     module _ (size : length model ≡ variables z) where
-      own-length : modelChecks z model ≡ andThen (byteChecks model) (andThen (tested (value model) 0 (clauses z)) (cellChecks (value model) (board .first) (board .width * board .height) (length colors)))
+      own-length : modelChecks z model ≡ andThen (valueChecks model) (andThen (tested (value model) 0 (clauses z)) (cellChecks (value model) (board .first) (board .width * board .height) (length colors)))
       unfolding modelChecks
-      own-length = rw (eq-eqb (length model) (variables z) size, area-is, G .stands .first-is, given-shows G .hues-are)
+      own-length = rw (eq-eqb (length model) (variables z) size, tested-first (value model) 0 (clauses z), area-is, G .stands .first-is, given-shows G .hues-are)
 
       -- its cell variables are within it
       pub cells-within : board .first + board .width * board .height * length colors ≤ length model + 1
       cells-within = omega (arith, variables-is, few .some)
 
       -- 14
-      pub bytes-refused : (a : Answer) {why : Refusal} → a ≡ Refused why → told a ≡ byteChecks model → told a ≡ modelChecks z model
+      pub bytes-refused : (a : Answer) {why : Refusal} → a ≡ Refused why → told a ≡ valueChecks model → told a ≡ modelChecks z model
       bytes-refused a d e = handed-up d e _ ∙ sym own-length
 
-      module _ (a : Answer) {n : ℕ} (d : a ≡ Accepted n) (e : told a ≡ byteChecks model) where
+      module _ (a : Answer) {n : ℕ} (d : a ≡ Accepted n) (e : told a ≡ valueChecks model) where
         -- 15
         pub clauses-refused : (b : Answer) {why : Refusal} → b ≡ Refused why → told b ≡ tested (value model) 0 (clauses z) → told b ≡ modelChecks z model
         clauses-refused b q f = handed-up q f _ ∙ goes-on d e _ ∙ sym own-length

@@ -6,8 +6,8 @@ use lib.Dec.{eqb, ltb}
 use lib.ListN.{length}
 use Rattle.lists.specs.Each.{tab, sum}
 use Rattle.refusals.specs.Verdict.{Verdict, refuse, andThen, firstOff}
-use Rattle.truth.specs.Truth.{Assignment, value}
-use Rattle.truth.specs.Tested.{tested}
+use Rattle.sections.specs.Sections.{Clause}
+use Rattle.truth.specs.Truth.{Assignment, value, clauseTrue}
 use Rattle.puzzles.specs.Puzzle.{Puzzle, width, height}
 use Rattle.numbering.specs.Variables.{hues, variables, firstCell}
 use Rattle.counts.specs.Families.{clauses}
@@ -17,17 +17,21 @@ unfoldable pub trues : Assignment → ℕ → ℕ → ℕ
 trues β v n = sum n (λ r. cond (β (v + r)) 1 0)
 
 -- 14: a byte that is not 0 or 1
-abbrev pub byteChecks : List ℕ → Verdict
-byteChecks model = firstOff (λ b. ltb 1 b) 14 0 model
+abbrev pub valueChecks : List ℕ → Verdict
+valueChecks model = firstOff (λ b. ltb 1 b) 14 0 model
+
+-- 15: a clause that is false
+abbrev pub clauseChecks : Assignment → List Clause → Verdict
+clauseChecks β cs = firstOff (λ c. not (clauseTrue β c)) 15 0 cs
 
 -- 16: of n cells of k colours whose variables begin at v, one that has two true ones
 abbrev pub cellChecks : Assignment → ℕ → ℕ → ℕ → Verdict
 cellChecks β v n k = firstOff (λ m. ltb 1 m) 16 0 (tab n (λ i. trues β (v + i * k) k))
 
--- 15 is at the first clause of the ten sections that is false
+-- of the clauses of the ten sections
 unfoldable pub modelChecks : Puzzle → List ℕ → Verdict
 modelChecks z model =
     refuse (not (eqb (length model) (variables z))) 13 (variables z)
-    (andThen (byteChecks model)
-    (andThen (tested (value model) 0 (clauses z))
+    (andThen (valueChecks model)
+    (andThen (clauseChecks (value model) (clauses z))
     (cellChecks (value model) (firstCell z) (width z * height z) (hues z))))

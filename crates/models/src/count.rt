@@ -7,10 +7,10 @@ ghost use Prim.Native.Nat.{_+_, _*_, _≤_, _<_};
 ghost use lib.ListN.{length};
 ghost use Rattle.refusals.specs.Told.{told};
 ghost use Rattle.truth.specs.Truth.{value};
-ghost use Rattle.models.specs.Models.{trues, byteChecks, cellChecks};
+ghost use Rattle.models.specs.Models.{trues, valueChecks, cellChecks};
 
 pub fn check_bytes(model: &[u8]) -> Answer
-    ensures { λ r. ⌜ told r ≡ byteChecks (now (model .entry)) ⌝ }
+    ensures { λ r. ⌜ told r ≡ valueChecks (now (model .entry)) ⌝ }
 {
     for i in 0..model.len() {
         if 1 < model[i] {

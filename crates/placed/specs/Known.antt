@@ -2,6 +2,6 @@
 use Prim.Native.Nat.{ℕ, _+_, _≤_, _<_}
 use Rattle.numbering.specs.Variables.{Line, many, firstOf}
 
--- its n bytes are those of the variables 1 to n
+-- the n bytes of a model are those of the variables 1 to n, and the line's are among them
 abbrev pub Known : ℕ → Line → Type 0
 Known n L = (b : ℕ) → b < many L → firstOf L b + L .positions ≤ n + 1

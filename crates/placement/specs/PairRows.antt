@@ -11,7 +11,7 @@ use Rattle.numbering.specs.Variables.{Line, many, firstOf}
 abbrev pub apart : Line → ℕ → ℕ → ℕ
 apart L a b = distance gap (at (L .runs) a) (at (L .runs) b)
 
--- for each of p positions a row, whose first d are empty
+-- a row for each of p positions; the first d rows are empty
 abbrev pub rowsFrom : ℕ → ℕ → ℕ → ℕ → List Clause
 rowsFrom va vb d p = each p (λ i. row (va + i) vb (i + 1 - d))
 

@@ -15,17 +15,17 @@ use Rattle.probes.specs.Probes.{Claim, Probe}
 
 -- ---- of a cell whose variables begin at v, one for each colour of cs
 
--- it has not colour c: that variable negated; or it is not blank: all its variables
+-- that the cell does not have colour c: that colour's variable negated; that it is not blank: all its variables
 unfoldable pub premiseOf : List ℕ → ℕ → ℕ → Clause
 premiseOf cs v c =
     cond (eqb c 0) (atLeastOne v (length cs))
     (each (length cs) (λ r. when (eqb (getD cs r 0) c) (negative (v + r) ∷ [])))
 
--- what colour c says of the variable u of colour d: blank, it is negated; that colour, it; else nothing
+-- what colour c of a cell says of its variable u of colour d: blank, u negated; that colour, u; any other colour nothing
 unfoldable pub implied : ℕ → ℕ → ℕ → List ℤ
 implied c d u = cond (eqb c 0) (negative u ∷ []) (when (eqb d c) (positive u ∷ []))
 
--- behind a premise, it has colour c; a colour that is not among them gives no clause
+-- behind a premise, that the cell has colour c; a colour that is not among cs gives no clause
 unfoldable pub impactOf : List ℕ → Clause → ℕ → ℕ → List Clause
 impactOf cs premise v c = each (length cs) (λ r. map (λ l. premise ++ (l ∷ [])) (implied c (getD cs r 0) (v + r)))
 

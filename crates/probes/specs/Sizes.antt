@@ -11,7 +11,7 @@ use Rattle.bits.specs.Bits.{bit}
 use Rattle.numbering.specs.Variables.{palette}
 use Rattle.probes.specs.declared.count.Size.{Size}
 
--- a blank impact gives a clause for each colour, another one if it is in K
+-- a blank impact gives a clause for each colour, a coloured one a single clause if its colour is in K, and else none
 unfoldable pub impactCount : ℕ → ℕ → ℕ
 impactCount K c = cond (eqb c 0) (length (palette K)) (cond (bit K c) 1 0)
 

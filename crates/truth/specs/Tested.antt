@@ -9,7 +9,7 @@ use Rattle.truth.specs.Truth.{Assignment, clauseTrue}
 use Rattle.truth.specs.declared.Tested.{Tested}
 use Rattle.truth.specs.declared.Tested.the-variants.{Fine, False}
 
--- at the first of the clauses that is false, the first of them at place p; and else the place behind the last
+-- 15 at the first false clause, where the first clause has place p; and else the place behind the last
 unfoldable pub tested : Assignment → ℕ → List Clause → Verdict
 tested β p [] = accepted p
 tested β p (c ∷ cs) = refuse (not (clauseTrue β c)) 15 p (tested β (p + 1) cs)

@@ -5,7 +5,7 @@ use Rattle.lists.proofs.Emitting.{Emitting, emit-kept, emit-room, emit-next}
 use Rattle.sections.specs.Sections.{clausesWords}
 use Rattle.sections.proofs.ClauseLists.{say-first, say-done}
 use Rattle.puzzles.specs.Checks.{puzzle}
-use Rattle.cells.specs.Given.{ofCell}
+use Rattle.cells.specs.Cells.{ofCell}
 use borrow.Author.Needs.{needs}
 use Rattle.cells.proofs.section.column_clauses.Statement.{statement}
 use Rattle.cells.proofs.section.column_clauses.Tie as tie

@@ -7,7 +7,7 @@ use Prim.Native.Nat.{_-_}
 use Rattle.lists.specs.Each.{each}
 use Rattle.sections.specs.Sections.{clausesWords}
 use Rattle.puzzles.specs.Checks.{puzzle}
-use Rattle.cells.specs.Given.{ofCell}
+use Rattle.cells.specs.Cells.{ofCell}
 use Rattle.literals.proofs.Words.{word-is}
 use lib.IntN.{pos}
 use Rattle.cells.proofs.ByColumn.{columns-are}

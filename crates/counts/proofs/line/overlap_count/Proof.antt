@@ -1,5 +1,6 @@
 use native.Mathlib.Omega.{arith}
 use Prim.Native.Nat.{_-_}
+use Rattle.lists.specs.Each.{sumPairs}
 use Rattle.numbering.specs.Variables.{many}
 use Rattle.numbering.specs.Tables.{lineOf}
 use Rattle.numbering.proofs.SoundLines.{of-many, sound-shared, sound-some}
@@ -28,4 +29,4 @@ overlap-count-spec =
     (λ c. omega (arith, of-many (c .before .before .before .before .before .args .line .now) (c .before .before .before .before .before .args .clue .now), sound-shared (c .before .before .before .before .before .pre .0), sound-some (c .before .before .before .before .before .pre .0), c .before .loop-test .taken))
     (λ c. search needs)
     (λ c. summing-next (c .before .before .loop .inv) (omega (arith, of-many (c .before .before .before .before .before .args .line .now) (c .before .before .before .before .before .args .clue .now), c .before .loop-test .taken)) (c .later-count .ensures))
-    (λ c. unfold overlapIn in summing-done (c .before .loop .inv) (omega (arith, of-many (c .before .before .before .before .args .line .now) (c .before .before .before .before .args .clue .now), c .loop-test .left))))
+    (λ c. unfold overlapIn sumPairs overlapAt in summing-done (c .before .loop .inv) (omega (arith, of-many (c .before .before .before .before .args .line .now) (c .before .before .before .before .args .clue .now), c .loop-test .left))))

@@ -5,13 +5,13 @@ use native.Mathlib.Omega.{arith}
 use lib.ListN.{length, drop, drop-of-length-le}
 use Rattle.lists.proofs.Dropping.{drop-one}
 use Rattle.bits.specs.Bits.{withBit}
-use Rattle.grids.specs.Mask.{cellColors}
+use Rattle.grids.specs.Mask.{gridColors}
 use borrow.Author.Needs.{needs}
 use Rattle.grids.proofs.masks.cell_colors.Statement.{statement}
 use Rattle.grids.proofs.masks.cell_colors.Tie as tie
 
 abbrev Inv-loop : tie.InvT-loop
-Inv-loop grid mask₀ i₀ i-end mask i = (i-end ≡ length grid) × (i ≤ i-end) × (cellColors grid ≡ foldl withBit mask (drop i grid))
+Inv-loop grid mask₀ i₀ i-end mask i = (i-end ≡ length grid) × (i ≤ i-end) × (gridColors grid ≡ foldl withBit mask (drop i grid))
 
 abbrev μ-loop : tie.MeasureT-loop
 μ-loop grid mask₀ i₀ i-end mask i = i-end - i
