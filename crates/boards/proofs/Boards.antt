@@ -11,7 +11,7 @@ use lib.Seq.{drop-at, drop-drop, getD-append-add}
 use borrow.Author.Tests.{ne-eqb}
 use Rattle.lists.proofs.Writing.{tail-is}
 use Rattle.refusals.specs.Verdict.{Verdict, accepted, refused, andThen}
-use Rattle.refusals.specs.Told.{refusal, told}
+use Rattle.refusals.specs.Told.{told}
 use Rattle.refusals.specs.declared.Refusal.{Refusal}
 use Rattle.refusals.specs.declared.Answer.{Answer}
 use Rattle.refusals.specs.declared.Answer.the-variants.{Refused}

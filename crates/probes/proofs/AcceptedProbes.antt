@@ -1,7 +1,7 @@
 -- Probe words that are accepted: all that holds of them; and the words of fine probes are accepted and read as them.
 use mathlib.Core.Path.{_≡_, sym, ap, _∙_}
-use mathlib.Core.List.{List, [], _∷_, append-nil}
-use Prim.Native.Nat.{ℕ, suc, _≤_}
+use mathlib.Core.List.{List, [], append-nil}
+use Prim.Native.Nat.{ℕ, _≤_}
 use native.Mathlib.Nat.{zero-add}
 use lib.Dec.{ltb}
 use lib.ListN.{length}
@@ -15,12 +15,8 @@ use Rattle.puzzles.specs.Puzzle.{Puzzle, width, height}
 use Rattle.puzzles.specs.Checks.{colors}
 use Rattle.probes.specs.Probes.{Probe, readProbes, probes, probeChecks}
 use Rattle.probes.specs.ByWords.{checksOn}
-use Rattle.probes.specs.Words.{probesWords}
+use Rattle.probes.specs.Words.{listWords}
 use Rattle.probes.proofs.ProbeReaders.{FineProbe, noProbe, probes-reader}
-
--- a count, then the probes
-abbrev pub listWords : List Probe → List ℕ
-listWords ps = length ps ∷ probesWords ps
 
 -- the probes that words hold
 abbrev pub heldIn : ℕ → ℕ → ℕ → List ℕ → List Probe
@@ -29,7 +25,7 @@ heldIn w h K us = readOr [] (readProbes w h K us)
 -- they are few, they are the words of these probes, and each of them is fine
 pub record Accepted (w h K : ℕ) (us : List ℕ) : Type 0 where
   pub few : length us ≤ 1048576
-  pub words-are : us ≡ length (heldIn w h K us) ∷ probesWords (heldIn w h K us)
+  pub words-are : us ≡ listWords (heldIn w h K us)
   pub fine : Every noProbe (FineProbe w h K) (heldIn w h K us)
 
 module _ (w h K : ℕ) (us : List ℕ) where

@@ -13,7 +13,7 @@ use Rattle.refusals.specs.Walk.{got, word}
 use Rattle.refusals.proofs.Walking.{stopIf-got, next-got}
 use Rattle.refusals.proofs.Readers.{Reads, Reader, reads-as, word-reader, listed-reader}
 use Rattle.probes.specs.Probes.{Claim, Probe, readClaim, listed, isColor, readProbe}
-use Rattle.probes.specs.Words.{claimWords, claimsWords, probeWords, probesWords}
+use Rattle.probes.specs.Words.{claimWords, claimsWords, probeWords, probesWords, listWords}
 
 -- ---- claims
 
@@ -109,7 +109,6 @@ module _ (w h K : ℕ) where
   pub probe-reader : Reader (readProbe w h K) probeWords (FineProbe w h K)
   probe-reader = record { only = probe-only; back = probe-back }
 
-  -- all of them, after their count
-  pub probes-reader : Reader (listed (readProbe w h K)) (λ ps. length ps ∷ probesWords ps) (Every noProbe (FineProbe w h K))
+  pub probes-reader : Reader (listed (readProbe w h K)) listWords (Every noProbe (FineProbe w h K))
   unfolding probesWords
   probes-reader = listed-reader noProbe probe-reader probesWords refl (λ p ps. refl) (λ n. n) (λ n. refl) 1 (λ n o. refl) 0 (λ n. refl)

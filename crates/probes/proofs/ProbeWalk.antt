@@ -10,7 +10,7 @@ use borrow.Author.Tests.{le-leb, lt-leb, lt-ltb, le-ltb}
 use Rattle.lists.proofs.Writing.{tail-is}
 use Rattle.refusals.specs.Verdict.{Verdict, accepted, refused}
 use Rattle.refusals.specs.Told.{told}
-use Rattle.refusals.specs.Walk.{got, outcome}
+use Rattle.refusals.specs.Walk.{got, outcome, word}
 use Rattle.refusals.specs.declared.Refusal.{Refusal}
 use Rattle.refusals.specs.declared.Answer.{Answer}
 use Rattle.refusals.specs.declared.Answer.the-variants.{Accepted, Refused}
@@ -37,34 +37,38 @@ module _ (w h at : ℕ) (part : List ℕ) where
     x-off o = rw (word-some 0 1 (leb w) 17 at part 0 one, le-leb w _ o)
 
     module _ (x-in : getD part 0 0 < w) where
+      x-is : word 1 (leb w) 17 at part ≡ got (getD part 0 0) (at + 1) (drop 1 part)
+      x-is = word-some 0 1 (leb w) 17 at part 0 one ∙ rw (lt-leb w _ x-in)
+
       pub y-missing : length part ≡ 1 → Comes (refused 1 (at + 1))
       unfolding readClaim
-      y-missing e = rw (word-some 0 1 (leb w) 17 at part 0 one, lt-leb w _ x-in, word-none 0 1 (leb h) 17 (at + 1) part 1 e)
+      y-missing e = rw (x-is, word-none 0 1 (leb h) 17 (at + 1) part 1 e)
 
       module _ (two : 1 < length part) where
         pub y-off : h ≤ getD part 1 0 → Comes (refused 17 (at + 1))
         unfolding readClaim
-        y-off o = rw (word-some 0 1 (leb w) 17 at part 0 one, lt-leb w _ x-in, word-some 0 1 (leb h) 17 (at + 1) part 1 two, le-leb h _ o)
+        y-off o = rw (x-is, word-some 0 1 (leb h) 17 (at + 1) part 1 two, le-leb h _ o)
 
         module _ (y-in : getD part 1 0 < h) where
+          y-is : word 1 (leb h) 17 (at + 1) (drop 1 part) ≡ got (getD part 1 0) (at + 2) (drop 2 part)
+          y-is =
+              let p : at + 1 + 1 ≡ at + 2 = omega arith in
+              word-some 0 1 (leb h) 17 (at + 1) part 1 two ∙ rw (lt-leb h _ y-in, p)
+
           pub color-missing : length part ≡ 2 → Comes (refused 1 (at + 2))
           unfolding readClaim
-          color-missing e =
-              let p : at + 1 + 1 ≡ at + 2 = omega arith in
-              rw (word-some 0 1 (leb w) 17 at part 0 one, lt-leb w _ x-in, word-some 0 1 (leb h) 17 (at + 1) part 1 two, lt-leb h _ y-in, p, word-none 0 1 (ltb 31) 18 (at + 2) part 2 e)
+          color-missing e = rw (x-is, y-is, word-none 0 1 (ltb 31) 18 (at + 2) part 2 e)
 
           module _ (three : 2 < length part) where
             pub color-off : 31 < getD part 2 0 → Comes (refused 18 (at + 2))
             unfolding readClaim
-            color-off o =
-                let p : at + 1 + 1 ≡ at + 2 = omega arith in
-                rw (word-some 0 1 (leb w) 17 at part 0 one, lt-leb w _ x-in, word-some 0 1 (leb h) 17 (at + 1) part 1 two, lt-leb h _ y-in, p, word-some 0 1 (ltb 31) 18 (at + 2) part 2 three, lt-ltb 31 _ o)
+            color-off o = rw (x-is, y-is, word-some 0 1 (ltb 31) 18 (at + 2) part 2 three, lt-ltb 31 _ o)
 
             pub color-on : getD part 2 0 ≤ 31 → Comes (accepted (at + 3))
             unfolding readClaim
             color-on o =
-                let p : at + 1 + 1 + 1 ≡ at + 3 = omega arith in
-                rw (word-some 0 1 (leb w) 17 at part 0 one, lt-leb w _ x-in, word-some 0 1 (leb h) 17 (at + 1) part 1 two, lt-leb h _ y-in, word-some 0 1 (ltb 31) 18 (at + 1 + 1) part 2 three, le-ltb 31 _ o, p)
+                let p : at + 2 + 1 ≡ at + 3 = omega arith in
+                rw (x-is, y-is, word-some 0 1 (ltb 31) 18 (at + 2) part 2 three, le-ltb 31 _ o, p)
 
 -- ---- a probe
 

@@ -11,7 +11,7 @@ use borrow.Author.Tests.{eqb-false, eqb-true, eq-eqb, ne-eqb, le-ltb, ltb-false}
 use Rattle.lists.proofs.Tests.{neither, both, not-false}
 use Rattle.refusals.specs.Verdict.{accepted, andThen}
 use Rattle.refusals.specs.Walk.{got, walked, readOr}
-use Rattle.refusals.proofs.Answering.{refuse-accepted, first-accepted, then-accepted}
+use Rattle.refusals.proofs.Answering.{first-accepted, then-accepted}
 use Rattle.refusals.proofs.Offending.{none-off, off-none}
 use Rattle.refusals.proofs.Readers.{walked-is}
 use Rattle.bits.specs.Bits.{bit}

@@ -1,5 +1,5 @@
 -- Document 01, "Refusal numbers": one walk over a puzzle's words from the left gives 1, 2, 3, 4, 5, 7, 8 at the first word that offends.
-use mathlib.Core.Bool.{Bool, not}
+use mathlib.Core.Bool.{not}
 use mathlib.Core.List.{List}
 use Prim.Native.Nat.{ℕ, _*_}
 use lib.Dec.{eqb, ltb}

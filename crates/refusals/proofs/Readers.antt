@@ -80,7 +80,7 @@ module _ {B A : Type 0} (d : A) {f : ℕ → List B → Walk B A} {W : A → Lis
       let more = times-only n (p .place) (p .left) (q .value) (q .place) (q .left) (q .got-is) in
       reads-as (q .then)
       (record {
-        words-are = one .words-are ∙ rw (some (p .value) (q .value), append-assoc) (ap (λ (t : List B). W (p .value) ++ t) (more .words-are));
+        words-are = one .words-are ∙ rw (some (p .value) (q .value), append-assoc, ← more .words-are);
         place-is = omega (arith, one .place-is, more .place-is, ap length (some (p .value) (q .value)), length-append (W (p .value)) (all (q .value)));
         fine = (omega (arith, more .fine .0), λ k. elim k [ zero ↦ λ h. one .fine | suc k ↦ λ h. more .fine .1 k (omega arith) ]);
       })

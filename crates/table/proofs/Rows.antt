@@ -14,7 +14,7 @@ use Rattle.lines.specs.Calls.{blockChecks, clueChecks, startsWords, rangesWords
 use Rattle.puzzles.specs.Puzzle.{clueAt, lengthAt}
 use Rattle.puzzles.specs.Colors.{withColors, withLines, colorSet, known, solved, offSolved}
 use Rattle.puzzles.specs.Walk.{readBlock, readPuzzle}
-use Rattle.puzzles.specs.Checks.{spaces, meaningChecks, puzzle}
+use Rattle.puzzles.specs.Checks.{spaces, meaningChecks}
 use Rattle.boards.specs.Table.{firstAt}
 use Rattle.numbering.specs.Variables.{lineAt, palette, cellFirst, variables}
 use Rattle.placement.specs.Placement as Placement
