@@ -15,12 +15,13 @@ use Rattle.refusals.specs.Told.{told}
 use Rattle.refusals.specs.declared.Refusal.{Refusal}
 use Rattle.refusals.specs.declared.Answer.{Answer}
 use Rattle.refusals.specs.declared.Answer.the-variants.{Refused}
+use Rattle.refusals.specs.Walk.{walked}
 use Rattle.refusals.proofs.Answering.{refused-told, handed-up, first-accepted, then-accepted}
 use Rattle.puzzles.specs.Puzzle.{Puzzle, width, height, lines, linesWords, cellsWords, puzzleWords, rowsAt, cellsAt}
 use Rattle.puzzles.specs.Walk.{readPuzzle}
-use Rattle.puzzles.specs.Checks.{colors, spaceChecks, columnChecks, solvedChecks, spaces, meaningChecks, sectionsOf, puzzle, puzzleChecks, Sectioned}
+use Rattle.puzzles.specs.Checks.{colors, spaceChecks, columnChecks, solvedChecks, spaces, meaningChecks, puzzle, puzzleChecks, Sectioned}
 use Rattle.boards.specs.Table.{beginAt, Laid}
-use Rattle.puzzles.proofs.Accepting.{Walked, walked-is, size-some}
+use Rattle.puzzles.proofs.Accepting.{Walked, walked-sections, sectioned-is, size-some}
 use Rattle.boards.proofs.Beginning.{begin-next, begin-rows, begin-cells}
 use Rattle.boards.proofs.Finding.{laid-begin, found}
 
@@ -43,8 +44,8 @@ module _ (z : Puzzle) where
       ∙ drop-at (linesWords (z .rows)) (cellsWords (z .masks)) (length (linesWords (z .rows))) refl
 
 module _ (ws : List ℕ) (S : Sectioned ws) where
-  W : Walked ws (rowsAt (puzzle ws))
-  W = walked-is ws S
+  W : Walked ws
+  W = walked-sections ws S
 
   pub width-word : getD ws 0 0 ≡ width (puzzle ws)
   width-word = ap (λ (l : List ℕ). getD l 0 0) (W .words-are) ∙ first-word (puzzle ws)
@@ -93,11 +94,8 @@ module _ (ws : List ℕ) (S : Sectioned ws) where
 
 -- ---- the checks, one after another
 
-pub sectioned-is : (ws : List ℕ) {n : ℕ} → accepted n ≡ sectionsOf (readPuzzle ws) → Sectioned ws
-sectioned-is ws e = rw (← walked-is ws e .rows-are) e
-
 pub accepted-sectioned : (ws : List ℕ) {n : ℕ} → accepted n ≡ puzzleChecks ws → Sectioned ws
-accepted-sectioned ws e = sectioned-is ws (first-accepted (sectionsOf (readPuzzle ws)) (meaningChecks (puzzle ws)) e .1)
+accepted-sectioned ws e = sectioned-is ws (first-accepted (walked 11 (readPuzzle ws)) (meaningChecks (puzzle ws)) e .1)
 
 -- a refusal before the last step is one whatever follows
 then-refused : (v w w′ : Verdict) {k p : ℕ} → refused k p ≡ andThen v w → (refused k p ≡ w → refused k p ≡ w′) → refused k p ≡ andThen v w′
@@ -140,8 +138,16 @@ module _ (z : Puzzle) {n : ℕ} (s : accepted n ≡ spaces z (accepted (cellsAt 
       pub meaning-done : {j : ℕ} → accepted j ≡ solvedChecks K (z .masks) → accepted K ≡ meaningChecks z
       meaning-done e = sym (meaning ∙ rw (← c, ← e))
 
-pub sections-off : (ws : List ℕ) {a : Answer} {why : Refusal} → a ≡ Refused why → told a ≡ sectionsOf (readPuzzle ws) → told a ≡ puzzleChecks ws
-sections-off ws r e = handed-up r e _
+module _ (ws : List ℕ) where
+  pub sections-read : {n : ℕ} → accepted n ≡ andThen (walked 11 (readPuzzle ws)) (accepted (rowsAt (puzzle ws))) → Sectioned ws × (n ≡ rowsAt (puzzle ws))
+  sections-read {n} e =
+      let u : accepted n ≡ accepted (rowsAt (puzzle ws)) = then-accepted (walked 11 (readPuzzle ws)) _ e in
+      (sectioned-is ws (first-accepted (walked 11 (readPuzzle ws)) _ e .1), cc)
 
-pub sections-on : (ws : List ℕ) → Sectioned ws → {v : Verdict} → v ≡ meaningChecks (puzzle ws) → v ≡ puzzleChecks ws
-sections-on ws S e = e ∙ rw (← S)
+  pub sections-off : {a : Answer} {why : Refusal} → a ≡ Refused why → told a ≡ andThen (walked 11 (readPuzzle ws)) (accepted (rowsAt (puzzle ws))) → told a ≡ puzzleChecks ws
+  sections-off r e =
+      let t = refused-told r in
+      t ∙ then-refused (walked 11 (readPuzzle ws)) (accepted (rowsAt (puzzle ws))) (meaningChecks (puzzle ws)) (sym t ∙ e) (λ g. let q : _≡_ {A = ℕ} 0 1 = cc in absurd (omega arith))
+
+  pub sections-on : Sectioned ws → {v : Verdict} → v ≡ meaningChecks (puzzle ws) → v ≡ puzzleChecks ws
+  sections-on S e = e ∙ rw (← S)

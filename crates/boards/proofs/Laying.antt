@@ -27,7 +27,7 @@ use Rattle.lines.proofs.ClueWords.{starts-size, starts-positions, positions-bou
 use Rattle.puzzles.specs.Puzzle.{Puzzle, width, height, lines, cluesWords, clueAt, lengthAt, cellsAt}
 use Rattle.puzzles.specs.Checks.{puzzle, Sectioned, spaces}
 use Rattle.boards.specs.Table.{beginAt, firstAt, positionsAt, laidWords, LineLaid, Laid, Standing}
-use Rattle.puzzles.proofs.Accepting.{walked-is, FineLine, fine-lines}
+use Rattle.puzzles.proofs.Accepting.{walked-sections, FineLine, fine-lines}
 use Rattle.boards.proofs.Beginning.{Here, clue-here, begin-next, begin-cells}
 use Rattle.puzzles.proofs.Lines.{spaces-fit, spaces-short}
 
@@ -43,7 +43,7 @@ pub first-most : (ws : List ℕ) → Sectioned ws → (l : ℕ) → l ≤ lines 
 unfolding firstAt
 first-most ws S zero h = omega arith
 first-most ws S (suc l) h =
-    let F = fine-lines (puzzle ws) (walked-is ws S .fine) l (omega arith) in
+    let F = fine-lines (puzzle ws) (walked-sections ws S .fine) l (omega arith) in
     omega (arith, first-most ws S l (omega arith), variables-most (puzzle ws) l (F .few) (size-within (lengthAt (puzzle ws) l) (F .sized)))
 
 -- ---- one line of words whose sections were read
@@ -53,13 +53,13 @@ module _ (ws : List ℕ) (S : Sectioned ws) (l : ℕ) (h : l < lines (puzzle ws)
   z = puzzle ws
 
   pub line-fine : FineLine (lengthAt z l) (clueAt z l)
-  line-fine = fine-lines z (walked-is ws S .fine) l h
+  line-fine = fine-lines z (walked-sections ws S .fine) l h
 
   pub line-here : Here ws (beginAt z l) (clueAt z l)
-  line-here = rw (← walked-is ws S .words-are) at (clue-here z l h)
+  line-here = rw (← walked-sections ws S .words-are) at (clue-here z l h)
 
   pub lines-most : lines z ≤ 128
-  lines-most = let F = walked-is ws S .fine in omega (arith, size-within (width z) (F .columns .0), size-within (height z) (F .rows .0))
+  lines-most = let F = walked-sections ws S .fine in omega (arith, size-within (width z) (F .columns .0), size-within (height z) (F .rows .0))
 
   module _ {at first : ℕ} (P : Standing z l at first) where
     -- what the sums and the stores of a turn need

@@ -6,9 +6,9 @@ use Prim.Native.Nat.{ℕ, zero, suc, _+_, _-_, _≤_, _<_}
 use native.Mathlib.Omega.{arith}
 use native.Mathlib.Decide.{decLt}
 use lib.Dec.{eqb}
-use lib.ListN.{length, getD, length-append, List·getD-append}
+use lib.ListN.{length, length-append, List·getD-append}
 use lib.Seq.{getD-append-add}
-use Rattle.lists.specs.Each.{each, when}
+use Rattle.lists.specs.Each.{each, when, Every}
 use Rattle.lists.proofs.Sums.{sum-below, length-each}
 use Rattle.literals.specs.Literals.{IsVariable}
 use Rattle.lines.specs.Arrangement.{at, covers}
@@ -21,11 +21,8 @@ use Rattle.cells.proofs.BlockPositions.{block-most}
 
 -- ---- what holds of each of them
 
-abbrev pub Every : (ℕ → Type 0) → List ℕ → Type 0
-Every P us = (i : ℕ) → i < length us → P (getD us i 0)
-
 module _ (P : ℕ → Type 0) where
-  every-append : (us vs : List ℕ) → Every P us → Every P vs → Every P (us ++ vs)
+  every-append : (us vs : List ℕ) → Every 0 P us → Every 0 P vs → Every 0 P (us ++ vs)
   every-append us vs a b i h = elim (decLt i (length us)) [
     | yes l ↦ rw (List·getD-append us vs 0 i l) (a i l)
     | no l ↦
@@ -34,20 +31,20 @@ module _ (P : ℕ → Type 0) where
         rw (e, getD-append-add us vs k 0) (b k (omega (arith, length-append us vs)))
   ]
 
-  every-each : (n : ℕ) (f : ℕ → List ℕ) → ((k : ℕ) → k < n → Every P (f k)) → Every P (each n f)
+  every-each : (n : ℕ) (f : ℕ → List ℕ) → ((k : ℕ) → k < n → Every 0 P (f k)) → Every 0 P (each n f)
   unfolding each
   every-each zero f h = λ i l. absurd (omega arith)
   every-each (suc n) f h = every-append (each n f) (f n) (every-each n f (λ k l. h k (omega arith))) (h n (omega arith))
 
-  every-when : (b : Bool) (us : List ℕ) → Every P us → Every P (when b us)
+  every-when : (b : Bool) (us : List ℕ) → Every 0 P us → Every 0 P (when b us)
   every-when true us h = h
   every-when false us h = λ i l. absurd (omega arith)
 
-  every-one : (v : ℕ) → P v → Every P (v ∷ [])
+  every-one : (v : ℕ) → P v → Every 0 P (v ∷ [])
   every-one v h zero l = h
   every-one v h (suc i) l = absurd (omega arith)
 
-  pub covering-every : (L : Line) (c t : ℕ) → ((b i : ℕ) → b < many L → i < L .positions → P (variable L b i)) → Every P (covering L c t)
+  pub covering-every : (L : Line) (c t : ℕ) → ((b i : ℕ) → b < many L → i < L .positions → P (variable L b i)) → Every 0 P (covering L c t)
   unfolding covering
   covering-every L c t h =
       every-each (many L) _ (λ b k. every-when (eqb (at (L .runs) b .color) c) _

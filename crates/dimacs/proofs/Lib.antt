@@ -1,12 +1,9 @@
 pub mod NumberText
 pub mod PutDigits
-pub mod Walking
 pub mod Readers
-pub mod Passing
 pub mod ReadBack
 pub mod ClauseLines
 pub mod HeaderLine
 pub mod Ahead
 pub mod LineLoops
 pub mod Accepting
-pub mod WordChecks

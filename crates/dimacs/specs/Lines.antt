@@ -1,7 +1,7 @@
 -- Clause words among which none is wrong, and the lines that a loop makes of them. It needs no number of sections: where the section that it is in
 -- has no clause left, the next word counts the clauses of another.
 use mathlib.Core.Path.{_≡_}
-use mathlib.Core.List.{List, [], _∷_, _++_}
+use mathlib.Core.List.{List, [], _∷_}
 use Prim.Native.Nat.{ℕ, zero, suc, _≤_, _<_}
 use lib.IntN.{pos, natAbs, ℤ}
 use lib.ListN.{length, take, drop, getD}

@@ -9,7 +9,8 @@ ghost use mathlib.Core.Path.{_≡_};
 ghost use Prim.Native.Nat.{_+_, _^_, _<_};
 ghost use lib.ListN.{length};
 ghost use Rattle.refusals.specs.Told.{told};
-ghost use Rattle.dimacs.specs.Walk.{outcome, times, readLiteral, readClause, readSection};
+ghost use Rattle.refusals.specs.Walk.{outcome, times};
+ghost use Rattle.dimacs.specs.Walk.{readLiteral, readClause, readSection};
 
 fn read_literal(variables: u32, part: &[i32], at: usize) -> Answer
     requires { ⌜ at + length (now part) < 2 ^ 63 ⌝ }

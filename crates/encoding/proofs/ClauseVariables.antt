@@ -8,7 +8,7 @@ use native.Mathlib.Decide.{decLt}
 use lib.IntN.{ℤ, pos}
 use lib.ListN.{length, length-append, List·getD-append}
 use lib.Seq.{getD-append-add}
-use Rattle.lists.specs.Each.{each, tab, when, pairs, product}
+use Rattle.lists.specs.Each.{each, tab, when, pairs, product, Every}
 use Rattle.bits.specs.Bits.{bit}
 use Rattle.literals.specs.Literals.{positive, negative}
 use Rattle.literals.proofs.Readings.{made-literal}
@@ -31,14 +31,14 @@ use Rattle.cells.specs.Cells as C
 use Rattle.cells.specs.Cells.{covering, ofColor, byColumn, ofCells, pointOnce, precomputed, precomputedCells}
 use Rattle.cells.specs.declared.rule.Rule as D
 use Rattle.cells.specs.declared.rule.Rule.the-variants.{Color, Space}
-use Rattle.cells.proofs.CoveringPositions.{Every, covering-every}
+use Rattle.cells.proofs.CoveringPositions.{covering-every}
 use Rattle.counts.specs.Families.{families}
-use Rattle.dimacs.proofs.Readers.{Each, IsLiteral, FineSection}
+use Rattle.dimacs.proofs.Readers.{IsLiteral, FineSection}
 
 -- ---- what holds of each element of a list
 
 All : {A : Type 0} → A → (A → Type 0) → List A → Type 0
-All d P l = Each d P l
+All d P l = Every d P l
 
 module _ {A : Type 0} (d : A) (P : A → Type 0) where
   all-none : All d P []
@@ -76,7 +76,7 @@ module _ {A : Type 0} (d : A) (P : A → Type 0) where
   all-when true l h = h
   all-when false l h = all-none
 
-  all-map : (f : ℕ → A) (us : List ℕ) → Every (λ u. P (f u)) us → All d P (map f us)
+  all-map : (f : ℕ → A) (us : List ℕ) → Every 0 (λ u. P (f u)) us → All d P (map f us)
   all-map f [] h = all-none
   all-map f (u ∷ us) h = all-more (f u) (map f us) (h 0 (omega arith)) (all-map f us (λ i l. h (suc i) (omega arith)))
 
@@ -143,7 +143,7 @@ module _ (z : Puzzle) (G : Good z) where
 
   -- ---- families 7 to 10
 
-  cover-fine : (rule : D.Rule) (v : ℕ) (us : List ℕ) → Of v → Every Of us → FineAll (C.ruled rule v us)
+  cover-fine : (rule : D.Rule) (v : ℕ) (us : List ℕ) → Of v → Every 0 Of us → FineAll (C.ruled rule v us)
   unfolding C.ruled
   cover-fine Color v us o h =
       one-fine _ (all-append (pos 0) (IsLiteral (variables z)) (map positive us) (negative v ∷ [])
@@ -154,7 +154,7 @@ module _ (z : Puzzle) (G : Good z) where
   cell-of : (x y r : ℕ) → x < width z → y < height z → r < hues z → Of (cellVariable z x y r)
   cell-of x y r h k m = number-within z (cell x y r) (h, k, m)
 
-  covering-of : (l c t : ℕ) → l < lines z → Every Of (covering (lineAt z l) c t)
+  covering-of : (l c t : ℕ) → l < lines z → Every 0 Of (covering (lineAt z l) c t)
   covering-of l c t h = covering-every Of (lineAt z l) c t (position-of l h)
 
   cells-fine : (rule : D.Rule) → FineAll (ofCells z rule)
@@ -190,6 +190,6 @@ module _ (z : Puzzle) (G : Good z) where
       more _ _ (lines-fine rule 0 (width z) (omega arith)) (more _ _ (lines-fine rule (width z) (height z) (omega arith)) h) in
       side Positions _ (side Once _ (side Overlap _ (more _ _ (cells-fine Color) (more _ _ (cells-fine Space) (more _ _ points-fine (more _ _ units-fine (all-none [] FineAll)))))))
 
-  pub families-fine : Each [] (FineSection (variables z)) (families z)
+  pub families-fine : Every [] (FineSection (variables z)) (families z)
   unfolding All
   families-fine = all-fine

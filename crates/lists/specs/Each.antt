@@ -1,7 +1,8 @@
 -- Lists as a loop makes them, a part for each turn.
-use Prim.Native.Nat.{ℕ, zero, suc, _+_, _-_}
+use Prim.Native.Nat.{ℕ, zero, suc, _+_, _-_, _<_}
 use mathlib.Core.Bool.{Bool, cond}
 use mathlib.Core.List.{List, [], _∷_, _++_}
+use lib.ListN.{length, getD}
 
 module _ {A : Type 0} where
   -- f 0, then f 1, .., then f (n - 1)
@@ -24,6 +25,10 @@ module _ {A : Type 0} where
   -- the list, where the test holds
   abbrev pub when : Bool → List A → List A
   when b l = cond b l []
+
+  -- of each element
+  abbrev pub Every : A → (A → Type 0) → List A → Type 0
+  Every d P l = (k : ℕ) → k < length l → P (getD l k d)
 
 -- f 0 + f 1 + .. + f (n - 1)
 unfoldable pub sum : ℕ → (ℕ → ℕ) → ℕ

@@ -8,6 +8,7 @@ use native.Mathlib.Omega.{arith}
 use lib.ListN.{length}
 use Rattle.lists.specs.Each.{each, tab, pairs, product}
 use Rattle.refusals.specs.Verdict.{firstOff}
+use Rattle.refusals.specs.Walk.{walked, readOr, word, times, counted}
 use Rattle.sections.specs.Sections.{atLeastOne, atMostOne}
 use Rattle.bits.specs.Bits.{bit, powers, withBit}
 use Rattle.lines.specs.Clue.{words, gap, packedFrom, packed, lastEnd, minSpace, positions, conflict}
@@ -15,8 +16,8 @@ use Rattle.lines.specs.Line.{run, runsFrom, runs}
 use Rattle.lines.specs.Arrangement.{blockAt}
 use Rattle.puzzles.specs.Puzzle.{clueWords, cluesWords, linesWords, cellsWords, puzzleWords, clueAt, lengthAt}
 use Rattle.puzzles.specs.Colors.{withColors, withLines, colorSet, known, solved, offSolved}
-use Rattle.puzzles.specs.Walk.{times, counted, readBlock, readMask, readPuzzle}
-use Rattle.puzzles.specs.Checks.{spaces, meaningChecks, sectionsOf, puzzleOf, puzzle}
+use Rattle.puzzles.specs.Walk.{readBlock, readPuzzle}
+use Rattle.puzzles.specs.Checks.{spaces, meaningChecks, puzzle}
 use Rattle.boards.specs.Table.{firstAt}
 use Rattle.numbering.specs.Variables.{lineAt, palette, cellFirst, variables}
 use Rattle.placement.specs.Placement as Placement
@@ -36,7 +37,7 @@ unfolding
     p8 p10 p11 p12 two each tab pairs product firstOff bit powers withBit
     gap packedFrom packed lastEnd minSpace positions conflict words run runsFrom runs
     clueWords cluesWords linesWords cellsWords puzzleWords clueAt lengthAt withColors withLines colorSet known solved offSolved
-    times counted readBlock readMask readPuzzle spaces meaningChecks sectionsOf puzzleOf
+    walked readOr word times counted readBlock readPuzzle spaces meaningChecks
     firstAt lineAt palette cellFirst variables atLeastOne atMostOne
     blockPositions blockOnce nonOverlap Placement.ruled ofLines covering Cells.ruled ofColor byColumn precomputed precomputedCells families flatten
     row column sizeChecks gridChecks rowClues columnClues gridPuzzle gridWords

@@ -1,45 +1,58 @@
--- All that holds of accepted probe words.
-use mathlib.Core.Path.{_≡_, refl, _∙_}
-use mathlib.Core.List.{List, [], _∷_, _++_, append-nil}
+-- Probe words that are accepted: all that holds of them; and the words of fine probes are accepted and read as them.
+use mathlib.Core.Path.{_≡_, sym, ap, _∙_}
+use mathlib.Core.List.{List, [], append-nil}
 use Prim.Native.Nat.{ℕ, _≤_}
-use native.Mathlib.Omega.{arith}
+use native.Mathlib.Nat.{zero-add}
 use lib.Dec.{ltb}
 use lib.ListN.{length}
-use borrow.Author.Tests.{ltb-false}
+use borrow.Author.Tests.{le-ltb, ltb-false}
+use Rattle.lists.specs.Each.{Every}
 use Rattle.refusals.specs.Verdict.{accepted}
+use Rattle.refusals.specs.Walk.{got, walked, readOr}
 use Rattle.refusals.proofs.Answering.{refuse-accepted}
-use Rattle.puzzles.specs.Walk.{Walk, got, stop}
-use Rattle.puzzles.proofs.Readers.{Each}
-use Rattle.probes.specs.Probes.{Probe, readProbes, walked, probesOf}
+use Rattle.refusals.proofs.Readers.{Reads, walked-is}
+use Rattle.puzzles.specs.Puzzle.{Puzzle, width, height}
+use Rattle.puzzles.specs.Checks.{colors}
+use Rattle.probes.specs.Probes.{Probe, readProbes, probes, probeChecks}
 use Rattle.probes.specs.ByWords.{checksOn}
-use Rattle.probes.specs.Words.{probesWords}
+use Rattle.probes.specs.Words.{listWords}
 use Rattle.probes.proofs.ProbeReaders.{FineProbe, noProbe, probes-reader}
 
--- the probes that they hold
+-- the probes that words hold
 abbrev pub heldIn : ℕ → ℕ → ℕ → List ℕ → List Probe
-heldIn w h K us = probesOf (readProbes w h K us)
+heldIn w h K us = readOr [] (readProbes w h K us)
 
 -- they are few, they are the words of these probes, and each of them is fine
 pub record Accepted (w h K : ℕ) (us : List ℕ) : Type 0 where
   pub few : length us ≤ 1048576
-  pub words-are : us ≡ length (heldIn w h K us) ∷ probesWords (heldIn w h K us)
-  pub fine : Each noProbe (FineProbe w h K) (heldIn w h K us)
+  pub words-are : us ≡ listWords (heldIn w h K us)
+  pub fine : Every noProbe (FineProbe w h K) (heldIn w h K us)
 
 module _ (w h K : ℕ) (us : List ℕ) where
-  walked-by : (walk : Walk (List Probe)) → readProbes w h K us ≡ walk → {n : ℕ} → accepted n ≡ walked walk
-      → (us ≡ length (probesOf walk) ∷ probesWords (probesOf walk)) × Each noProbe (FineProbe w h K) (probesOf walk)
-  unfolding readProbes walked probesOf
-  walked-by (got ps i ws) e a =
-      let R = probes-reader w h K .only 0 us ps i ws e in
-      (R .words-are ∙ whole ws (length ps ∷ probesWords ps) (ltb-false 0 (length ws) (refuse-accepted (ltb 0 (length ws)) _ _ _ a .0)), R .fine .1)
-    where
-      whole : (ws vs : List ℕ) → length ws ≤ 0 → vs ++ ws ≡ vs
-      whole [] vs l = append-nil vs
-      whole (x ∷ ws) vs l = absurd (omega arith)
-  walked-by (stop k p) e a = let z : _≡_ {A = ℕ} 0 1 = cc in absurd (omega arith)
+  pub probes-only : (ps : List Probe) (j : ℕ) (vs : List ℕ) → readProbes w h K us ≡ got ps j vs → Reads listWords (Every noProbe (FineProbe w h K)) 0 us ps j vs
+  unfolding readProbes
+  probes-only ps j vs e = probes-reader w h K .only 0 us ps j vs e
 
   pub accepted-probes : {n : ℕ} → accepted n ≡ checksOn w h K us → Accepted w h K us
   accepted-probes e =
       let r = refuse-accepted (ltb 1048576 (length us)) _ _ _ e in
-      let a = walked-by (readProbes w h K us) refl (r .1) in
-      record { few = ltb-false 1048576 (length us) (r .0); words-are = a .0; fine = a .1 }
+      let a = walked-is [] 11 (readProbes w h K us) probes-only (r .1) in
+      record { few = ltb-false 1048576 (length us) (r .0); words-are = a .0; fine = a .2 }
+
+-- ---- the words of such probes, for a puzzle
+
+module _ (z : Puzzle) (ps : List Probe) (fine : Every noProbe (FineProbe (width z) (height z) (colors z)) ps) where
+  reads : readProbes (width z) (height z) (colors z) (listWords ps) ≡ got ps (length (listWords ps)) []
+  unfolding readProbes
+  reads =
+      ap (readProbes (width z) (height z) (colors z)) (sym (append-nil (listWords ps)))
+      ∙ probes-reader (width z) (height z) (colors z) .back 0 ps [] fine
+      ∙ ap (λ k. got ps k []) (zero-add (length (listWords ps)))
+
+  pub probes-accepted : length (listWords ps) ≤ 1048576 → accepted (length (listWords ps)) ≡ probeChecks z (listWords ps)
+  unfolding walked
+  probes-accepted few = rw (le-ltb _ _ few, reads)
+
+  pub probes-read : probes z (listWords ps) ≡ ps
+  unfolding readOr
+  probes-read = rw reads

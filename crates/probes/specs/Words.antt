@@ -23,3 +23,7 @@ probeWords p = claimWords (p .premise) ++ (length (p .impacts) ∷ claimsWords (
 unfoldable pub probesWords : List Probe → List ℕ
 probesWords [] = []
 probesWords (p ∷ ps) = probeWords p ++ probesWords ps
+
+-- all of them, after their count
+abbrev pub listWords : List Probe → List ℕ
+listWords ps = length ps ∷ probesWords ps

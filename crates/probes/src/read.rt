@@ -8,7 +8,7 @@ ghost use mathlib.Core.Path.{_≡_};
 ghost use Prim.Native.Nat.{_+_, _^_, _<_};
 ghost use lib.ListN.{length};
 ghost use Rattle.refusals.specs.Told.{told};
-ghost use Rattle.puzzles.specs.Walk.{outcome, times};
+ghost use Rattle.refusals.specs.Walk.{outcome, times};
 ghost use Rattle.probes.specs.Probes.{readClaim, listed, isColor, readProbe, readProbes};
 ghost use Rattle.probes.specs.ByWords.{checksOn};
 

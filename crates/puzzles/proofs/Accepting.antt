@@ -4,22 +4,25 @@ use mathlib.Core.Bool.{true, false, not}
 use mathlib.Core.List.{List, [], _∷_, append-nil}
 use Prim.Native.Nat.{ℕ, zero, suc, _+_, _≤_, _<_}
 use native.Mathlib.Omega.{arith}
+use native.Mathlib.Nat.{zero-add}
 use lib.Dec.{eqb, ltb}
 use lib.ListN.{length, getD}
 use borrow.Author.Tests.{eqb-false, eqb-true, eq-eqb, ne-eqb, le-ltb, ltb-false}
 use Rattle.lists.proofs.Tests.{neither, both, not-false}
 use Rattle.refusals.specs.Verdict.{accepted, andThen}
-use Rattle.refusals.proofs.Answering.{refuse-accepted, first-accepted, then-accepted}
+use Rattle.refusals.specs.Walk.{got, walked, readOr}
+use Rattle.refusals.proofs.Answering.{first-accepted, then-accepted}
 use Rattle.refusals.proofs.Offending.{none-off, off-none}
+use Rattle.refusals.proofs.Readers.{walked-is}
 use Rattle.bits.specs.Bits.{bit}
 use Rattle.lines.specs.Clue.{Block, gap, minSpace}
 use Rattle.lines.specs.Calls.{offSize}
 use Rattle.lines.specs.Arrangement.{Proper, blockAt}
 use Rattle.lines.proofs.Checks.{size-within}
-use Rattle.puzzles.specs.Puzzle.{Puzzle, width, height, lines, clueAt, lengthAt, puzzleWords, rowsAt}
+use Rattle.puzzles.specs.Puzzle.{Puzzle, width, height, lines, clueAt, lengthAt, puzzleWords}
 use Rattle.puzzles.specs.Colors.{known, offSolved}
-use Rattle.puzzles.specs.Walk.{Walk, got, stop, readPuzzle}
-use Rattle.puzzles.specs.Checks.{colors, spaceChecks, columnChecks, solvedChecks, spaces, meaningChecks, sectionsOf, puzzleOf, puzzleChecks, puzzle}
+use Rattle.puzzles.specs.Walk.{readPuzzle}
+use Rattle.puzzles.specs.Checks.{colors, spaceChecks, columnChecks, solvedChecks, spaces, meaningChecks, puzzle, Sectioned, puzzleChecks}
 use Rattle.puzzles.specs.Good.{Good}
 use Rattle.puzzles.proofs.Readers.{FineClue, FinePuzzle, puzzle-only, puzzle-back}
 use Rattle.puzzles.proofs.Lines.{clue-column, clue-row, each-line, spaces-fit}
@@ -88,7 +91,7 @@ module _ (z : Puzzle) where
               (λ l h. ltb-false _ _ (none-off [] (λ bs. ltb (height z) (minSpace gap bs)) 6 0 (z .columns) (C .1) l h))
               (λ l h. ltb-false _ _ (none-off [] (λ bs. ltb (width z) (minSpace gap bs)) 6 (width z) (z .rows) (R .1) l h));
           area = eqb-true _ _ (not-false _ (F .masks .0));
-          masks-some = F .masks .1;
+          masks-some = λ i h. omega (arith, eqb-false (getD (z .masks) i 0) 0 (F .masks .1 i h));
           columns-known = λ l b h g. rw (clue-column z l h)
               (known-each (colors z) (getD (z .columns) l []) (not-false _ (none-off [] (λ bs. not (known (colors z) bs)) 9 0 (z .columns) (K .1) l h)) b (rw (clue-column z l h) at g));
           solved-known = none-off 0 (offSolved (colors z)) 10 0 (z .masks) (M .1);
@@ -107,7 +110,7 @@ module _ (z : Puzzle) where
     fine-of = record {
       columns = (size-fine (width z) (G .width-some) (G .width-most), λ l h. rw (← clue-column z l h) (fine-clue l (omega arith)));
       rows = (size-fine (height z) (G .height-some) (G .height-most), λ l h. rw (← clue-row z l) (fine-clue (width z + l) (omega arith)));
-      masks = (rw (eq-eqb _ _ (G .area)), G .masks-some);
+      masks = (rw (eq-eqb _ _ (G .area)), λ i h. ne-eqb (getD (z .masks) i 0) 0 (λ e. omega (arith, G .masks-some i h)));
     }
 
     meaning-of : meaningChecks z ≡ accepted (colors z)
@@ -119,18 +122,18 @@ module _ (z : Puzzle) where
       off-none 0 (offSolved (colors z)) 10 0 (z .masks) (G .solved-known),
     )
 
-    walked : readPuzzle (puzzleWords z) ≡ got z (length (puzzleWords z)) []
-    walked = ap readPuzzle (sym (append-nil (puzzleWords z))) ∙ puzzle-back z [] fine-of
+    reads : readPuzzle (puzzleWords z) ≡ got z (length (puzzleWords z)) []
+    reads = ap readPuzzle (sym (append-nil (puzzleWords z))) ∙ puzzle-back z [] fine-of
 
     -- its words are accepted
     pub good-accepted : puzzleChecks (puzzleWords z) ≡ accepted (colors z)
-    unfolding sectionsOf puzzleOf
-    good-accepted = rw walked meaning-of
+    unfolding walked readOr
+    good-accepted = rw reads meaning-of
 
     -- and read as it
     pub good-read : puzzle (puzzleWords z) ≡ z
-    unfolding puzzleOf
-    good-read = rw walked
+    unfolding readOr
+    good-read = rw reads
 
 -- ---- accepted words
 
@@ -140,34 +143,28 @@ pub record Accepted (ws : List ℕ) (n : ℕ) : Type 0 where
   pub colors-are : n ≡ colors (puzzle ws)
 
 -- what holds once the sections are read
-pub record Walked (ws : List ℕ) (n : ℕ) : Type 0 where
+pub record Walked (ws : List ℕ) : Type 0 where
   pub words-are : ws ≡ puzzleWords (puzzle ws)
   pub fine : FinePuzzle (puzzle ws)
-  pub rows-are : n ≡ rowsAt (puzzle ws)
 
-walked-by : (ws : List ℕ) {n : ℕ} (w : Walk Puzzle) → readPuzzle ws ≡ w → accepted n ≡ sectionsOf w → (ws ≡ puzzleWords (puzzleOf w)) × FinePuzzle (puzzleOf w) × (n ≡ rowsAt (puzzleOf w))
-unfolding sectionsOf puzzleOf
-walked-by ws (got z j us) e a =
-    let r = refuse-accepted (ltb 0 (length us)) _ _ _ a in
-    let P = puzzle-only ws z j us e in
-    let n : us ≡ [] = nothing us (ltb-false 0 (length us) (r .0)) in
-    (P .words-are ∙ rw (n, append-nil), P .fine, cc)
-  where
-    nothing : (us : List ℕ) → length us ≤ 0 → us ≡ []
-    nothing [] h = refl
-    nothing (u ∷ us) h = absurd (omega arith)
-walked-by ws (stop k p) e a = let z : _≡_ {A = ℕ} 0 1 = cc in absurd (omega arith)
+module _ (ws : List ℕ) where
+  walked-by : {n : ℕ} → accepted n ≡ walked 11 (readPuzzle ws) → (ws ≡ puzzleWords (puzzle ws)) × (n ≡ 0 + length ws) × FinePuzzle (puzzle ws)
+  walked-by e = walked-is _ 11 (readPuzzle ws) (puzzle-only ws) e
 
-pub walked-is : (ws : List ℕ) {n : ℕ} → accepted n ≡ sectionsOf (readPuzzle ws) → Walked ws n
-walked-is ws e = let a = walked-by ws (readPuzzle ws) refl e in record { words-are = a .0; fine = a .1; rows-are = a .2 }
+  pub sectioned-is : {n : ℕ} → accepted n ≡ walked 11 (readPuzzle ws) → Sectioned ws
+  sectioned-is e = rw (walked-by e .1 ∙ zero-add (length ws)) at e
+
+  module _ (S : Sectioned ws) where
+    pub walked-sections : Walked ws
+    walked-sections = let a = walked-by S in record { words-are = a .0; fine = a .2 }
+
+    pub sizes : (width (puzzle ws) ≤ 64) × (height (puzzle ws) ≤ 64)
+    sizes = let F = walked-sections .fine in (size-within (width (puzzle ws)) (F .columns .0), size-within (height (puzzle ws)) (F .rows .0))
 
 -- the one inversion: all that holds of accepted words
 pub accepted-is : (ws : List ℕ) {n : ℕ} → accepted n ≡ puzzleChecks ws → Accepted ws n
 accepted-is ws e =
-    let s = first-accepted (sectionsOf (readPuzzle ws)) (meaningChecks (puzzle ws)) e in
-    let W = walked-is ws (s .1) in
-    let g = good-of (puzzle ws) (W .fine) (then-accepted (sectionsOf (readPuzzle ws)) (meaningChecks (puzzle ws)) e) in
+    let s = first-accepted (walked 11 (readPuzzle ws)) (meaningChecks (puzzle ws)) e in
+    let W = walked-sections ws (sectioned-is ws (s .1)) in
+    let g = good-of (puzzle ws) (W .fine) (then-accepted (walked 11 (readPuzzle ws)) (meaningChecks (puzzle ws)) e) in
     record { words-are = W .words-are; good = g .0; colors-are = g .1 }
-
-pub sizes : (ws : List ℕ) {n : ℕ} → accepted n ≡ sectionsOf (readPuzzle ws) → (width (puzzle ws) ≤ 64) × (height (puzzle ws) ≤ 64)
-sizes ws e = let F = walked-is ws e .fine in (size-within (width (puzzle ws)) (F .columns .0), size-within (height (puzzle ws)) (F .rows .0))

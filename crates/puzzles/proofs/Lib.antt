@@ -1,7 +1,6 @@
-pub mod Walking
 pub mod Readers
 pub mod Lines
 pub mod Accepting
 pub mod ColorSets
-pub mod Sections
+pub mod Blocks
 pub mod Places

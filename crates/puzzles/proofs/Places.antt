@@ -8,25 +8,23 @@ use lib.ListN.{length, take, drop, getD, length-append, length-drop}
 use lib.Seq.{drop-at, drop-drop, getD-drop}
 use borrow.Author.Tests.{lt-ltb, le-ltb}
 use Rattle.lists.proofs.Writing.{tail-is}
-use Rattle.refusals.specs.Verdict.{accepted, refused, place}
+use Rattle.refusals.specs.Verdict.{Verdict, accepted, refused, andThen}
 use Rattle.refusals.specs.Told.{told}
 use Rattle.refusals.specs.declared.Refusal.{Refusal}
 use Rattle.refusals.specs.declared.Answer.{Answer}
 use Rattle.refusals.specs.declared.Answer.the-variants.{Accepted, Refused}
+use Rattle.refusals.specs.Walk.{Walk, got, outcome, walked, readOr}
 use Rattle.refusals.proofs.Answering.{refused-told}
+use Rattle.refusals.proofs.Walking.{outcome-got, stopped}
+use Rattle.refusals.proofs.Readers.{Reader}
 use Rattle.lines.proofs.Checks.{size-within}
 use Rattle.puzzles.specs.Puzzle.{linesWords, cellsWords, rowsAt}
-use Rattle.puzzles.specs.Walk.{Walk, got, stop, outcome, readLines, readCells, readPuzzle}
-use Rattle.puzzles.specs.Checks.{sectionsOf}
-use Rattle.puzzles.proofs.Walking.{outcome-got}
-use Rattle.puzzles.proofs.Readers.{Reader, FineLines, FineCells}
-
-pub stopped : {A : Type 0} (w : Walk A) {k p : ℕ} → outcome w ≡ refused k p → w ≡ stop k p
-stopped (got a i ws) e = let z : _≡_ {A = ℕ} 0 1 = cc in absurd (omega arith)
-stopped (stop k p) e = cc
+use Rattle.puzzles.specs.Walk.{readLines, readCells, readPuzzle}
+use Rattle.puzzles.specs.Checks.{puzzle}
+use Rattle.puzzles.proofs.Readers.{FineLines, FineCells}
 
 -- a section of the words from place i up to place j
-pub record Section {A : Type 0} (f : ℕ → List ℕ → Walk A) (W : A → List ℕ) (Fine : A → Type 0) (words : List ℕ) (i j : ℕ) : Type 0 where
+pub record Section {A : Type 0} (f : ℕ → List ℕ → Walk ℕ A) (W : A → List ℕ) (Fine : A → Type 0) (words : List ℕ) (i j : ℕ) : Type 0 where
   pub value : A
   pub got-is : f i (drop i words) ≡ got value j (drop j words)
   pub words-are : drop i words ≡ W value ++ drop j words
@@ -34,7 +32,7 @@ pub record Section {A : Type 0} (f : ℕ → List ℕ → Walk A) (W : A → Lis
   pub within : j ≤ length words
   pub fine : Fine value
 
-pub section-read : {A : Type 0} {f : ℕ → List ℕ → Walk A} {W : A → List ℕ} {Fine : A → Type 0} (R : Reader f W Fine) (words : List ℕ) (i : ℕ) → i ≤ length words
+pub section-read : {A : Type 0} {f : ℕ → List ℕ → Walk ℕ A} {W : A → List ℕ} {Fine : A → Type 0} (R : Reader f W Fine) (words : List ℕ) (i : ℕ) → i ≤ length words
     → {a : Answer} {j : ℕ} → a ≡ Accepted j → told a ≡ outcome (f i (drop i words)) → Section f W Fine words i j
 section-read {A} {f} {W} R words i h {a} {j} r e =
     let g = outcome-got (f i (drop i words)) (sym (ap told r) ∙ e) in
@@ -65,30 +63,33 @@ count-is words i j S =
 -- ---- the check, by the way that it goes
 
 module _ (words : List ℕ) where
-  pub columns-refused : {a : Answer} {why : Refusal} → a ≡ Refused why → told a ≡ outcome (readLines 0 words) → told a ≡ sectionsOf (readPuzzle words)
-  unfolding readPuzzle sectionsOf
+  abbrev Checked : Verdict → Type 0
+  Checked v = v ≡ andThen (walked 11 (readPuzzle words)) (accepted (rowsAt (puzzle words)))
+
+  pub columns-refused : {a : Answer} {why : Refusal} → a ≡ Refused why → told a ≡ outcome (readLines 0 words) → Checked (told a)
+  unfolding readPuzzle walked
   columns-refused r e = refused-told r ∙ rw (stopped (readLines 0 words) (sym e ∙ refused-told r))
 
   module _ {rows : ℕ} (C : Lines words 0 rows) where
-    pub rows-refused : {a : Answer} {why : Refusal} → a ≡ Refused why → told a ≡ outcome (readLines rows (take (length words - rows) (drop rows words))) → told a ≡ sectionsOf (readPuzzle words)
-    unfolding readPuzzle sectionsOf
+    pub rows-refused : {a : Answer} {why : Refusal} → a ≡ Refused why → told a ≡ outcome (readLines rows (take (length words - rows) (drop rows words))) → Checked (told a)
+    unfolding readPuzzle walked
     rows-refused r e = refused-told r ∙ rw (C .got-is, stopped (readLines rows (drop rows words)) (sym (rw (tail-is words rows) at e) ∙ refused-told r))
 
     module _ {cells : ℕ} (R : Lines words rows cells) {w h : ℕ} (we : w ≡ getD words 0 0) (he : h ≡ getD words rows 0) where
       area-is : w * h ≡ length (C .value) * length (R .value)
       area-is = rw (we, he, count-is words 0 rows C .1, count-is words rows cells R .1)
 
-      pub cells-refused : {a : Answer} {why : Refusal} → a ≡ Refused why → told a ≡ outcome (readCells (w * h) cells (take (length words - cells) (drop cells words))) → told a ≡ sectionsOf (readPuzzle words)
-      unfolding readPuzzle sectionsOf
+      pub cells-refused : {a : Answer} {why : Refusal} → a ≡ Refused why → told a ≡ outcome (readCells (w * h) cells (take (length words - cells) (drop cells words))) → Checked (told a)
+      unfolding readPuzzle walked
       cells-refused r e = refused-told r ∙ rw (C .got-is, R .got-is, ← area-is, stopped (readCells (w * h) cells (drop cells words)) (sym (rw (tail-is words cells) at e) ∙ refused-told r))
 
       module _ {end : ℕ} (M : Cells (w * h) words cells end) where
-        pub left-over : end < length words → refused 11 end ≡ sectionsOf (readPuzzle words)
-        unfolding readPuzzle sectionsOf
+        pub left-over : end < length words → Checked (refused 11 end)
+        unfolding readPuzzle walked
         left-over l = rw (C .got-is, R .got-is, ← area-is, M .got-is, lt-ltb 0 (length (drop end words)) (omega (arith, length-drop end words)))
 
-        pub sections-are : length words ≤ end → accepted rows ≡ sectionsOf (readPuzzle words)
-        unfolding readPuzzle sectionsOf rowsAt
+        pub sections-are : length words ≤ end → Checked (accepted rows)
+        unfolding readPuzzle walked readOr rowsAt
         sections-are l =
             let p : rows ≡ length (linesWords (C .value)) = omega (arith, C .place-is) in
             rw (C .got-is, R .got-is, ← area-is, M .got-is, le-ltb 0 (length (drop end words)) (omega (arith, length-drop end words)), ← p)

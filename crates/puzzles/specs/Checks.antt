@@ -5,11 +5,12 @@ use mathlib.Core.List.{List, []}
 use Prim.Native.Nat.{ℕ}
 use lib.Dec.{ltb}
 use lib.ListN.{length}
-use Rattle.refusals.specs.Verdict.{Verdict, accepted, refused, refuse, andThen, firstOff}
+use Rattle.refusals.specs.Verdict.{Verdict, accepted, andThen, firstOff}
+use Rattle.refusals.specs.Walk.{walked, readOr}
 use Rattle.lines.specs.Clue.{Block, gap, minSpace}
-use Rattle.puzzles.specs.Puzzle.{Puzzle, width, height, rowsAt}
+use Rattle.puzzles.specs.Puzzle.{Puzzle, width, height}
 use Rattle.puzzles.specs.Colors.{colorSet, known, offSolved}
-use Rattle.puzzles.specs.Walk.{Walk, got, stop, readPuzzle}
+use Rattle.puzzles.specs.Walk.{readPuzzle}
 
 -- 6: lines of n cells, the first of them line i
 abbrev pub spaceChecks : ℕ → ℕ → List (List Block) → Verdict
@@ -34,22 +35,13 @@ spaces z v = andThen (spaceChecks (height z) 0 (z .columns)) (andThen (spaceChec
 unfoldable pub meaningChecks : Puzzle → Verdict
 meaningChecks z = spaces z (andThen (columnChecks (colors z) (z .columns)) (andThen (solvedChecks (colors z) (z .masks)) (accepted (colors z))))
 
--- the walk, then 11; and else the place where the rows begin
-unfoldable pub sectionsOf : Walk Puzzle → Verdict
-sectionsOf (got z i ws) = refuse (ltb 0 (length ws)) 11 i (accepted (rowsAt z))
-sectionsOf (stop k p) = refused k p
-
-unfoldable pub puzzleOf : Walk Puzzle → Puzzle
-puzzleOf (got z i ws) = z
-puzzleOf (stop k p) = record { columns = []; rows = []; masks = [] }
-
--- the puzzle that words hold, and their refusals
+-- the puzzle that words hold
 abbrev pub puzzle : List ℕ → Puzzle
-puzzle ws = puzzleOf (readPuzzle ws)
+puzzle ws = readOr (record { columns = []; rows = []; masks = [] }) (readPuzzle ws)
 
 -- they are the three sections and no more
 abbrev pub Sectioned : List ℕ → Type 0
-Sectioned ws = accepted (rowsAt (puzzle ws)) ≡ sectionsOf (readPuzzle ws)
+Sectioned ws = accepted (length ws) ≡ walked 11 (readPuzzle ws)
 
 abbrev pub puzzleChecks : List ℕ → Verdict
-puzzleChecks ws = andThen (sectionsOf (readPuzzle ws)) (meaningChecks (puzzle ws))
+puzzleChecks ws = andThen (walked 11 (readPuzzle ws)) (meaningChecks (puzzle ws))

@@ -6,12 +6,15 @@ use refusals::Answer;
 use refusals::Refusal;
 ghost use mathlib.Core.Path.{_≡_};
 ghost use Rattle.refusals.specs.Told.{told};
+ghost use Rattle.refusals.specs.Verdict.{accepted, andThen};
+ghost use Rattle.refusals.specs.Walk.{walked};
+ghost use Rattle.puzzles.specs.Puzzle.{rowsAt};
 ghost use Rattle.puzzles.specs.Walk.{readPuzzle};
-ghost use Rattle.puzzles.specs.Checks.{sectionsOf};
+ghost use Rattle.puzzles.specs.Checks.{puzzle};
 
-// Where the words are the three sections and no more: the place where the rows begin.
+// The walk, then 11; and else the place where the rows begin.
 pub fn check_sections(words: &[u32]) -> Answer
-    ensures { λ r. ⌜ told r ≡ sectionsOf (readPuzzle (now (words .entry))) ⌝ }
+    ensures { λ r. ⌜ told r ≡ andThen (walked 11 (readPuzzle (now (words .entry)))) (accepted (rowsAt (puzzle (now (words .entry))))) ⌝ }
 {
     let columns = read_lines(words, 0);
     let Answer::Accepted(rows) = columns else {

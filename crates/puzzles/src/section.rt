@@ -8,7 +8,8 @@ ghost use mathlib.Core.Path.{_≡_};
 ghost use Prim.Native.Nat.{_+_, _^_, _<_};
 ghost use lib.ListN.{length};
 ghost use Rattle.refusals.specs.Told.{told};
-ghost use Rattle.puzzles.specs.Walk.{outcome, times, readBlock, readClue, readLines, readMask, readCells};
+ghost use Rattle.refusals.specs.Walk.{outcome, times};
+ghost use Rattle.puzzles.specs.Walk.{readBlock, readClue, readLines, readMask, readCells};
 
 fn read_block(part: &[u32], at: usize) -> Answer
     requires { ⌜ at + length (now part) < 2 ^ 63 ⌝ }

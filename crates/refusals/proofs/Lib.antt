@@ -1,3 +1,6 @@
 pub mod Answering
 pub mod Called
 pub mod Offending
+pub mod Walking
+pub mod Readers
+pub mod Passing

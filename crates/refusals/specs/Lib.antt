@@ -1,3 +1,4 @@
 pub mod Verdict
 pub mod Told
 pub mod Outcome
+pub mod Walk

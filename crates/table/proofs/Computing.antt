@@ -7,6 +7,7 @@ use Rattle.lists.specs.Wrote.{over}
 use Rattle.refusals.specs.Verdict.{Verdict, number, place, firstOff}
 use Rattle.refusals.specs.Outcome.{Outcome, verdict, kept}
 use Rattle.refusals.proofs.Answering.{outcome-determined}
+use Rattle.refusals.specs.Walk.{walked, readOr, word, times, counted}
 use Rattle.sections.specs.Sections.{literals, atLeastOne, atMostOne, clauseWords, clausesWords, sectionWords, sectionsWords}
 use Rattle.bits.specs.Bits.{bit, powers, withBit}
 use Rattle.lines.specs.Clue.{words, blocks, gap, packedFrom, packed, lastEnd, minSpace, positions, ofColor, range, conflict}
@@ -14,8 +15,8 @@ use Rattle.lines.specs.Line.{run, runsFrom, runs}
 use Rattle.lines.specs.Calls.{blockChecks, clueChecks, startsWords, rangesWords, lineChecks, lineWords}
 use Rattle.puzzles.specs.Puzzle.{clueAt, lengthAt}
 use Rattle.puzzles.specs.Colors.{withColors, withLines, colorSet, known, solved, offSolved}
-use Rattle.puzzles.specs.Walk.{times, counted, readBlock, readMask, readPuzzle}
-use Rattle.puzzles.specs.Checks.{spaces, meaningChecks, sectionsOf, puzzleOf, puzzle}
+use Rattle.puzzles.specs.Walk.{readBlock, readPuzzle}
+use Rattle.puzzles.specs.Checks.{spaces, meaningChecks, puzzle}
 use Rattle.boards.specs.Table.{firstAt}
 use Rattle.numbering.specs.Variables.{lineAt, palette, cellFirst, variables}
 use Rattle.placement.specs.Placement as Placement
@@ -60,7 +61,7 @@ unfolding
     words blocks gap packedFrom packed lastEnd minSpace positions ofColor range conflict run runsFrom runs
     blockChecks clueChecks startsWords rangesWords lineChecks lineWords
     clueAt lengthAt withColors withLines colorSet known solved offSolved
-    times counted readBlock readMask readPuzzle spaces meaningChecks sectionsOf puzzleOf
+    walked readOr word times counted readBlock readPuzzle spaces meaningChecks
     firstAt lineAt palette cellFirst variables atLeastOne atMostOne clauseWords clausesWords sectionWords sectionsWords
     blockPositions blockOnce nonOverlap Placement.ruled ofLines covering Cells.ruled Cells.ofColor byColumn precomputed precomputedCells families flatten
     literalTrue clauseTrue allTrue tested literals colorOf shown blocking trues modelChecks countsOf

@@ -1,5 +1,4 @@
-use Rattle.boards.proofs.Boards.{sectioned-is, sections-off, sections-on, width-word, height-word, rows-within}
-use Rattle.puzzles.proofs.Accepting.{walked-is}
+use Rattle.boards.proofs.Boards.{sections-read, sections-off, sections-on, width-word, height-word, rows-within}
 use Rattle.puzzles.specs.Puzzle as P
 use Rattle.puzzles.specs.Checks as C
 use Rattle.refusals.proofs.Answering.{refused-not}
@@ -11,10 +10,10 @@ use Rattle.boards.proofs.board.check_puzzle.Statement.{statement}
 use Rattle.boards.proofs.board.check_puzzle.Tie as tie
 
 sectioned : (c : tie.After-known-told) → C.Sectioned (c .before .before .before .before .before .before .args .words .now)
-sectioned c = sectioned-is _ (sym (ap told (c .before .sections .given .1)) ∙ c .before .before .before .check-sections .ensures)
+sectioned c = sections-read _ (sym (ap told (c .before .sections .given .1)) ∙ c .before .before .before .check-sections .ensures) .0
 
 rows-are : (c : tie.After-known-told) → c .before .sections .given .0 .0 ≡ P.rowsAt (C.puzzle (c .before .before .before .before .before .before .args .words .now))
-rows-are c = walked-is _ (sym (ap told (c .before .sections .given .1)) ∙ c .before .before .before .check-sections .ensures) .rows-are
+rows-are c = sections-read _ (sym (ap told (c .before .sections .given .1)) ∙ c .before .before .before .check-sections .ensures) .1
 
 pub check-puzzle-spec : {M : Type 1} → statement M
 check-puzzle-spec =

@@ -1,5 +1,5 @@
 use Rattle.boards.proofs.Laying.{LayingLines, Room, room, line-length-is, laying-first, laying-short, laying-vars, laying-next, laying-done, laying-laid}
-use Rattle.puzzles.proofs.Accepting.{walked-is, size-some}
+use Rattle.puzzles.proofs.Accepting.{walked-sections, size-some}
 use Rattle.lines.proofs.Checks.{size-within}
 use Rattle.refusals.proofs.Answering.{refused-not}
 use Rattle.puzzles.specs.Checks.{puzzle}
@@ -33,8 +33,8 @@ lay-lines-spec =
     (tie.spec
     Inv-loop
     μ-loop
-    (λ c. omega (arith, c .before .before .pre .1, size-within (P.width (puzzle (c .before .before .args .words .now))) (walked-is (c .before .before .args .words .now) (c .before .before .pre .0) .fine .columns .0), size-within (P.height (puzzle (c .before .before .args .words .now))) (walked-is (c .before .before .args .words .now) (c .before .before .pre .0) .fine .rows .0)))
-    (λ c. (omega (arith, c .before .before .pre .1), (refl, laying-first _ _ (size-some _ (walked-is (c .before .before .args .words .now) (c .before .before .pre .0) .fine .columns .0)))))
+    (λ c. omega (arith, c .before .before .pre .1, size-within (P.width (puzzle (c .before .before .args .words .now))) (walked-sections (c .before .before .args .words .now) (c .before .before .pre .0) .fine .columns .0), size-within (P.height (puzzle (c .before .before .args .words .now))) (walked-sections (c .before .before .args .words .now) (c .before .before .pre .0) .fine .rows .0)))
+    (λ c. (omega (arith, c .before .before .pre .1), (refl, laying-first _ _ (size-some _ (walked-sections (c .before .before .args .words .now) (c .before .before .pre .0) .fine .columns .0)))))
     (λ c κs. search needs)
     (λ c κs. (c .before .before .before .before .before .before .pre .0, (c .before .before .before .loop .inv .1 .1 .stands, (in-line (c .before .before), cells-are (c .before), omega (arith, c .before .before .before .loop .inv .1 .0, c .before .before .before .before .before .before .pre .1)))))
     (λ c. search needs)

@@ -1,5 +1,6 @@
 use borrow.Author.Tests.{lt-ltb, le-ltb}
-use Rattle.dimacs.proofs.WordChecks.{walk-refused, walk-left, walk-done}
+use Rattle.refusals.proofs.Passing.{walked-refused, walked-left, walked-done}
+use Rattle.dimacs.proofs.Readers.{sections-reader}
 use borrow.Author.Needs.{needs}
 use Rattle.dimacs.proofs.call.check_words.Statement.{statement}
 use Rattle.dimacs.proofs.call.check_words.Tie as tie
@@ -16,6 +17,6 @@ check-words-spec =
     (λ c κs. search needs)
     (λ c. search needs)
     (λ c. search needs)
-    (λ c. rw (le-ltb _ _ (c .before .before .before .before .before .if1 .left), le-ltb _ _ (c .before .before .before .before .if2 .left), le-ltb _ _ (c .before .before .before .if3 .left)) (walk-refused _ (c .enum-told .given .1) (c .before .before .read-sections .ensures)))
-    (λ c. rw (le-ltb _ _ (c .before .before .before .before .before .before .before .if1 .left), le-ltb _ _ (c .before .before .before .before .before .before .if2 .left), le-ltb _ _ (c .before .before .before .before .before .if3 .left)) (walk-left _ _ _ (c .before .before .read .given .1) (c .before .before .before .before .read-sections .ensures) (c .if4 .taken)))
-    (λ c. rw (le-ltb _ _ (c .before .before .before .before .before .before .before .if1 .left), le-ltb _ _ (c .before .before .before .before .before .before .if2 .left), le-ltb _ _ (c .before .before .before .before .before .if3 .left)) (walk-done _ _ _ (c .before .before .read .given .1) (c .before .before .before .before .read-sections .ensures) (c .if4 .left))))
+    (λ c. rw (le-ltb _ _ (c .before .before .before .before .before .if1 .left), le-ltb _ _ (c .before .before .before .before .if2 .left), le-ltb _ _ (c .before .before .before .if3 .left)) (walked-refused _ _ (c .before .before .read-sections .ensures) (c .enum-told .given .1)))
+    (λ c. rw (le-ltb _ _ (c .before .before .before .before .before .before .before .if1 .left), le-ltb _ _ (c .before .before .before .before .before .before .if2 .left), le-ltb _ _ (c .before .before .before .before .before .if3 .left)) (walked-left _ _ (c .before .before .before .before .read-sections .ensures) (sections-reader _ _ .only 0 _) (c .before .before .read .given .1) (c .if4 .taken)))
+    (λ c. rw (le-ltb _ _ (c .before .before .before .before .before .before .before .if1 .left), le-ltb _ _ (c .before .before .before .before .before .before .if2 .left), le-ltb _ _ (c .before .before .before .before .before .if3 .left)) (walked-done _ _ (c .before .before .before .before .read-sections .ensures) (sections-reader _ _ .only 0 _) (c .before .before .read .given .1) (c .if4 .left))))

@@ -1,4 +1,4 @@
-use Rattle.dimacs.proofs.Passing.{Passing, passing-first, passing-low, passing-next, passing-stop, passing-done}
+use Rattle.refusals.proofs.Passing.{Passing, passing-first, passing-low, passing-next, passing-stop, passing-done}
 use Rattle.dimacs.proofs.Readers.{literal-reader}
 use Rattle.dimacs.specs.Walk.{readLiteral}
 use native.Mathlib.Omega.{arith}

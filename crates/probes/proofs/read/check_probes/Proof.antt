@@ -1,4 +1,6 @@
-use Rattle.probes.proofs.ProbeWalk.{too-many, walk-read, walk-refused, words-left, words-read}
+use borrow.Author.Tests.{lt-ltb, le-ltb}
+use Rattle.refusals.proofs.Passing.{walked-refused, walked-left, walked-done}
+use Rattle.probes.proofs.AcceptedProbes.{probes-only}
 use borrow.Author.Needs.{needs}
 use Rattle.probes.proofs.read.check_probes.Statement.{statement}
 use Rattle.probes.proofs.read.check_probes.Tie as tie
@@ -7,10 +9,10 @@ pub check-probes-spec : {M : Type 1} → statement M
 check-probes-spec =
     tie.close
     (tie.spec
-    (λ c. too-many (c .before .before .args .width) (c .before .before .args .height) (c .before .before .args .colors) (c .before .before .args .probe .now) (c .if1 .taken))
+    (λ c. rw (lt-ltb _ _ (c .if1 .taken)))
     (λ c κs. search needs)
     (λ c. search needs)
     (λ c. search needs)
-    (λ c. walk-refused _ _ _ _ (c .before .before .read-probes .ensures) (c .before .before .before .if1 .left) (c .enum-told .given .1))
-    (λ c. words-left _ _ _ _ (c .before .before .before .before .before .if1 .left) (walk-read _ _ _ _ (c .before .before .before .before .read-probes .ensures) (c .before .before .read .given .1)) (c .if2 .taken))
-    (λ c. words-read _ _ _ _ (c .before .before .before .before .before .if1 .left) (walk-read _ _ _ _ (c .before .before .before .before .read-probes .ensures) (c .before .before .read .given .1)) (c .if2 .left)))
+    (λ c. rw (le-ltb _ _ (c .before .before .before .if1 .left)) (walked-refused _ _ (c .before .before .read-probes .ensures) (c .enum-told .given .1)))
+    (λ c. rw (le-ltb _ _ (c .before .before .before .before .before .if1 .left)) (walked-left _ _ (c .before .before .before .before .read-probes .ensures) (probes-only _ _ _ _) (c .before .before .read .given .1) (c .if2 .taken)))
+    (λ c. rw (le-ltb _ _ (c .before .before .before .before .before .if1 .left)) (walked-done _ _ (c .before .before .before .before .read-probes .ensures) (probes-only _ _ _ _) (c .before .before .read .given .1) (c .if2 .left))))

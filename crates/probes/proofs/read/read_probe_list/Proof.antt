@@ -1,4 +1,4 @@
-use Rattle.puzzles.proofs.Sections.{Passing, passing-first, passing-low, passing-next, passing-stop, passing-done}
+use Rattle.refusals.proofs.Passing.{Passing, passing-first, passing-low, passing-next, passing-stop, passing-done}
 use Rattle.probes.specs.Probes.{readProbe}
 use Rattle.probes.proofs.ProbeReaders.{probe-reader}
 use Prim.Native.Nat.{_-_}

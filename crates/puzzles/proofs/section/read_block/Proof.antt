@@ -1,4 +1,5 @@
-use Rattle.puzzles.proofs.Sections.{size-missing, size-off, color-missing, color-off, color-on}
+use native.Mathlib.Omega.{arith}
+use Rattle.puzzles.proofs.Blocks.{size-missing, size-off, color-missing, color-off, color-on}
 use mathlib.Core.Path.{sym, _∙_}
 use borrow.Author.Needs.{needs}
 use Rattle.puzzles.proofs.section.read_block.Statement.{statement}
@@ -10,12 +11,12 @@ read-block-spec =
     (tie.spec
     (λ c. size-missing _ _ (c .if1 .taken))
     (λ c. search needs)
-    (λ c. size-off _ _ (c .before .before .if1 .left) (c .if2 .taken))
+    (λ c. size-off _ _ (omega arith) (c .if2 .taken))
     (λ c. search needs)
-    (λ c. color-missing _ _ (c .before .before .before .if1 .left) (c .before .if2 .left) (c .if3 .taken))
+    (λ c. color-missing _ _ (omega arith) (c .before .if2 .left) (c .if3 .taken))
     (λ c. search needs)
     (λ c κs. search needs)
     (λ c. search needs)
-    (λ c. let b = c .before .before .before in color-off _ _ (b .before .before .before .if1 .left) (b .before .if2 .left) (b .if3 .left) (sym (c .before .off-color .ensures) ∙ c .if4 .taken))
+    (λ c. let b = c .before .before .before in color-off _ _ (omega arith) (b .before .if2 .left) (omega arith) (sym (c .before .off-color .ensures) ∙ c .if4 .taken))
     (λ c. search needs)
-    (λ c. let b = c .before .before .before in color-on _ _ (b .before .before .before .if1 .left) (b .before .if2 .left) (b .if3 .left) (sym (c .before .off-color .ensures) ∙ c .if4 .left)))
+    (λ c. let b = c .before .before .before in color-on _ _ (omega arith) (b .before .if2 .left) (omega arith) (sym (c .before .off-color .ensures) ∙ c .if4 .left)))
