@@ -1,7 +1,7 @@
 -- Where the clues of the lines begin among the words, and what stands there.
 use mathlib.Core.Path.{_≡_, refl, sym, ap, _∙_}
 use mathlib.Core.Bool.{cond}
-use mathlib.Core.List.{List, [], _∷_, _++_, append-assoc}
+use mathlib.Core.List.{List, [], _∷_, _++_, append-assoc, flatMap}
 use Prim.Native.Nat.{ℕ, zero, suc, _+_, _-_, _*_, _≤_, _<_}
 use native.Mathlib.Omega.{arith}
 use native.Mathlib.Nat.{add-zero, add-assoc}
@@ -10,11 +10,12 @@ use lib.Dec.{eqb}
 use lib.ListN.{length, take, drop, getD, length-append, length-drop}
 use lib.Seq.{take-at, drop-at, drop-drop, take-append-le, take-append-add, take-suc, getD-drop, take-all}
 use borrow.Author.Tests.{lt-ltb, le-ltb, eq-eqb, ne-eqb}
+use Rattle.lists.proofs.Eaches.{flat-append}
 use Rattle.lines.specs.Clue.{Block, words}
 use Rattle.lines.proofs.ClueWords.{words-length}
 use Rattle.puzzles.specs.Puzzle.{Puzzle, width, height, lines, clueWords, cluesWords, linesWords, cellsWords, puzzleWords, rowsAt, cellsAt, clueAt}
 use Rattle.boards.specs.Table.{beginAt}
-use Rattle.puzzles.proofs.Lines.{clues-append, clue-column, clue-row}
+use Rattle.puzzles.proofs.Lines.{clue-column, clue-row}
 
 -- ---- clues one after another
 
@@ -25,7 +26,7 @@ clue-size bs = omega (arith, words-length bs)
 -- behind the words of l clues stand those of the next
 clues-drop : (ls : List (List Block)) (l : ℕ) (more : List ℕ) → l < length ls
     → drop (length (cluesWords (take l ls))) (cluesWords ls ++ more) ≡ clueWords (getD ls l []) ++ (cluesWords (drop (suc l) ls) ++ more)
-unfolding cluesWords
+unfolding flatMap
 clues-drop [] l more h = absurd (omega arith)
 clues-drop (bs ∷ ls) zero more h = append-assoc (clueWords bs) (cluesWords ls) more
 clues-drop (bs ∷ ls) (suc l) more h =
@@ -57,7 +58,7 @@ module _ (z : Puzzle) where
   unfolding beginAt
   begin-row l =
       let h : width z ≤ width z + l = omega arith in
-      rw (le-ltb (width z + l) (width z) h, take-append-add (z .columns) (z .rows) l, clues-append (z .columns) (take l (z .rows)), length-append) (sym (add-assoc 2 _ _))
+      rw (le-ltb (width z + l) (width z) h, take-append-add (z .columns) (z .rows) l, flat-append clueWords (z .columns) (take l (z .rows)), length-append) (sym (add-assoc 2 _ _))
 
   column-here : (l : ℕ) → l < width z → Here (puzzleWords z) (beginAt z l) (getD (z .columns) l [])
   unfolding puzzleWords linesWords
@@ -94,11 +95,11 @@ module _ (z : Puzzle) where
   -- ---- and the next begins behind it
 
   clues-next : (l : ℕ) → l < lines z → length (cluesWords (take (l + 1) (z .columns ++ z .rows))) ≡ length (cluesWords (take l (z .columns ++ z .rows))) + (1 + 2 * length (clueAt z l))
-  unfolding clueAt cluesWords
+  unfolding clueAt flatMap
   clues-next l h =
       let ls = z .columns ++ z .rows in
       let e : l + 1 ≡ suc l = omega arith in
-      rw (e, take-suc ls l [] (omega (arith, length-append (z .columns) (z .rows))), clues-append (take l ls) (getD ls l [] ∷ []), length-append)
+      rw (e, take-suc ls l [] (omega (arith, length-append (z .columns) (z .rows))), flat-append clueWords (take l ls) (getD ls l [] ∷ []), length-append)
       (omega (arith, length-append (clueWords (getD ls l [])) [], clue-size (getD ls l [])))
 
   pub begin-next : (l : ℕ) → l < lines z → beginAt z (l + 1) ≡ beginAt z l + 1 + 2 * length (clueAt z l) + cond (eqb (l + 1) (width z)) 1 0
@@ -117,5 +118,5 @@ module _ (z : Puzzle) where
   begin-cells = begin-row (height z) ∙ rw (take-all (height z) (z .rows) (omega arith)) (omega arith)
 
   pub begin-rows : beginAt z (width z) ≡ rowsAt z + 1
-  unfolding rowsAt linesWords cluesWords
+  unfolding rowsAt linesWords flatMap
   begin-rows = ap (beginAt z) (sym (add-zero (width z))) ∙ begin-row 0 ∙ omega arith

@@ -1,7 +1,7 @@
 -- Laying a puzzle's lines: one line, and one after another.
 use mathlib.Core.Path.{_≡_, refl, sym, ap, _∙_}
 use mathlib.Core.Bool.{true, false, cond}
-use mathlib.Core.List.{List, [], _∷_}
+use mathlib.Core.List.{List, [], _∷_, flatMap}
 use Prim.Native.Nat.{ℕ, zero, suc, _+_, _-_, _*_, _≤_, _<_}
 use native.Mathlib.Omega.{arith}
 use native.Mathlib.Nat.{mul-le-mul-right}
@@ -24,7 +24,7 @@ use Rattle.lines.specs.Clue.{words, gap, minSpace}
 use Rattle.lines.specs.Calls.{clueChecks, startsWords}
 use Rattle.lines.proofs.Checks.{proper-clue, size-within}
 use Rattle.lines.proofs.ClueWords.{starts-size, starts-positions, positions-bound}
-use Rattle.puzzles.specs.Puzzle.{Puzzle, width, height, lines, cluesWords, clueAt, lengthAt, cellsAt}
+use Rattle.puzzles.specs.Puzzle.{Puzzle, width, height, lines, clueAt, lengthAt, cellsAt}
 use Rattle.puzzles.specs.Checks.{puzzle, Sectioned, spaces}
 use Rattle.boards.specs.Table.{beginAt, firstAt, positionsAt, laidWords, LineLaid, Laid, Standing}
 use Rattle.puzzles.proofs.Accepting.{walked-sections, FineLine, fine-lines}
@@ -140,7 +140,7 @@ pub record LayingLines (z : Puzzle) (table : List ℕ) (l at first : ℕ) : Type
   pub laid : (j : ℕ) → j < l → LineLaid z table j
 
 pub laying-first : (z : Puzzle) (table : List ℕ) → 0 < width z → LayingLines z table 0 1 1
-unfolding beginAt firstAt cluesWords
+unfolding beginAt firstAt flatMap
 laying-first z table h = record {
   within = omega arith;
   stands = record { at-is = rw (lt-ltb 0 (width z) h); at-most = omega arith; first-is = refl; first-most = omega arith };

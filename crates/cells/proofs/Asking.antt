@@ -5,12 +5,12 @@ use Prim.Native.Nat.{ℕ, _+_, _-_, _*_, _≤_, _<_}
 use native.Mathlib.Omega.{arith}
 use lib.ListN.{length, take, drop, getD, length-append}
 use lib.IntN.{ℤ}
+use Rattle.lists.proofs.Eaches.{flat-append}
 use Rattle.lists.specs.Wrote.{Wrote}
 use Rattle.lists.proofs.Fronts.{front-is}
 use Rattle.lists.proofs.Writing.{wrote-kept, wrote-then}
 use Rattle.literals.specs.Literals.{IsVariable}
-use Rattle.sections.specs.Sections.{Clause, clausesWords}
-use Rattle.sections.proofs.ClauseLists.{clauses-append}
+use Rattle.sections.specs.Sections.{Clause, clausesWords, clauseWords}
 use Rattle.puzzles.specs.Puzzle.{lines}
 use Rattle.puzzles.specs.Checks.{puzzle}
 use Rattle.numbering.specs.Variables.{lineAt}
@@ -70,11 +70,11 @@ module _ {ws table : List ℕ} {l : ℕ} (R : Ready ws table) (h : l < lines (pu
 -- two lists of clauses, one after the other
 module _ (cs ds : List Clause) (out : List ℤ) (at : ℕ) (h : at + length (clausesWords (cs ++ ds)) ≤ length out) where
   pub both-first : at + length (clausesWords cs) ≤ length out
-  both-first = omega (arith, ap length (clauses-append cs ds), length-append (clausesWords cs) (clausesWords ds))
+  both-first = omega (arith, ap length (flat-append clauseWords cs ds), length-append (clausesWords cs) (clausesWords ds))
 
   module _ {out₁ : List ℤ} {to : ℕ} (w : Wrote (clausesWords cs) out at out₁ to) where
     pub both-second : to + length (clausesWords ds) ≤ length out₁
-    both-second = omega (arith, ap length (clauses-append cs ds), length-append (clausesWords cs) (clausesWords ds), wrote-kept both-first w, w .next-is)
+    both-second = omega (arith, ap length (flat-append clauseWords cs ds), length-append (clausesWords cs) (clausesWords ds), wrote-kept both-first w, w .next-is)
 
     pub both-wrote : {out₂ : List ℤ} {to₂ : ℕ} → Wrote (clausesWords ds) out₁ to out₂ to₂ → Wrote (clausesWords (cs ++ ds)) out at out₂ to₂
-    both-wrote u = rw (clauses-append cs ds) (wrote-then (omega arith) w u)
+    both-wrote u = rw (flat-append clauseWords cs ds) (wrote-then (omega arith) w u)

@@ -1,6 +1,6 @@
 -- What the writers of sections ask, of an accepted puzzle and its counts.
 use mathlib.Core.Path.{_≡_}
-use mathlib.Core.List.{List, [], _++_}
+use mathlib.Core.List.{List, [], _++_, flatMap}
 use Prim.Native.Nat.{ℕ, _+_, _≤_, _<_}
 use native.Mathlib.Omega.{arith}
 use lib.ListN.{length, length-append}
@@ -40,7 +40,7 @@ module _ (z : Puzzle) (G : Good z) {b : Board} (S : Stands b z) (rule : Rule) wh
 
 -- the words of sections 7 to 10 are few
 pub cells-few : (z : Puzzle) → Good z → length (sectionsWords (cellSections z)) ≤ 10000000
-unfolding sectionsWords
+unfolding flatMap
 cells-few z G =
     let a = sectionWords (ofCells z Color) in
     let b = sectionWords (ofCells z Space) in

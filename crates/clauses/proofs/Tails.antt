@@ -1,11 +1,12 @@
 -- Sections written one after another, each group into the rest of the buffer.
-use mathlib.Core.Path.{_≡_, refl, sym}
-use mathlib.Core.List.{List, [], _∷_, _++_, append-assoc, append-nil}
+use mathlib.Core.Path.{_≡_, refl}
+use mathlib.Core.List.{List, [], _∷_, _++_, append-nil, flatMap}
 use Prim.Native.Nat.{ℕ, _+_, _-_, _≤_}
 use native.Mathlib.Omega.{arith}
 use lib.IntN.{ℤ}
 use lib.ListN.{length, take, drop, length-drop}
 use borrow.Rule.Slice.PartMut.{putMid}
+use Rattle.lists.proofs.Eaches.{flat-append}
 use Rattle.lists.specs.Wrote.{Wrote}
 use Rattle.lists.proofs.Writing.{Filling, fill-first, fill-room, fill-next, fill-kept, fill-done, wrote-tail, tail-is}
 use Rattle.sections.specs.Sections.{Clause, sectionWords, sectionsWords}
@@ -13,13 +14,8 @@ use Rattle.puzzles.specs.Puzzle.{Puzzle}
 use Rattle.counts.specs.Families.{families, buffer}
 use Rattle.clauses.specs.Groups.{lineSections, cellSections}
 
-sections-append : (ss ts : List (List Clause)) → sectionsWords (ss ++ ts) ≡ sectionsWords ss ++ sectionsWords ts
-unfolding sectionsWords
-sections-append [] ts = refl
-sections-append (s ∷ ss) ts = rw (sections-append ss ts) (sym (append-assoc (sectionWords s) (sectionsWords ss) (sectionsWords ts)))
-
 sections-one : (s : List Clause) → sectionsWords (s ∷ []) ≡ sectionWords s
-unfolding sectionsWords
+unfolding flatMap
 sections-one s = append-nil (sectionWords s)
 
 -- all sections are written from the front of the buffer on; `rest` is still to come
@@ -32,7 +28,7 @@ writing-first all out h = record { fill = fill-first (sectionsWords all) out 0 (
 -- the next group
 module _ {all : List (List Clause)} (g rest : List (List Clause)) {out₀ out : List ℤ} {at : ℕ} (W : Writing all (g ++ rest) out₀ out at) where
   pub writing-within : at + length (sectionsWords g) ≤ length out
-  writing-within = fill-room (W .fill) (sectionsWords g) (sectionsWords rest) (sections-append g rest)
+  writing-within = fill-room (W .fill) (sectionsWords g) (sectionsWords rest) (flat-append sectionWords g rest)
 
   -- the tail has room for it
   pub writing-room : length (sectionsWords g) ≤ length (take (length out - at) (drop at out))
@@ -43,11 +39,11 @@ module _ {all : List (List Clause)} (g rest : List (List Clause)) {out₀ out : 
 
   pub writing-next : {tail : List ℤ} {used : ℕ} → Wrote (sectionsWords g) (take (length out - at) (drop at out)) 0 tail used
       → Writing all rest out₀ (putMid at (length out - at) out tail) (at + used)
-  writing-next w = record { fill = fill-next (W .fill) (sectionsWords g) (sectionsWords rest) (sections-append g rest) (wrote-tail w) }
+  writing-next w = record { fill = fill-next (W .fill) (sectionsWords g) (sectionsWords rest) (flat-append sectionWords g rest) (wrote-tail w) }
 
   -- the first is written into the buffer itself
   pub writing-whole : {out₁ : List ℤ} {at₁ : ℕ} → Wrote (sectionsWords g) out at out₁ at₁ → Writing all rest out₀ out₁ at₁
-  writing-whole w = record { fill = fill-next (W .fill) (sectionsWords g) (sectionsWords rest) (sections-append g rest) w }
+  writing-whole w = record { fill = fill-next (W .fill) (sectionsWords g) (sectionsWords rest) (flat-append sectionWords g rest) w }
 
 -- a group of one section
 module _ (s : List Clause) where
@@ -65,7 +61,7 @@ module _ {all rest : List (List Clause)} {out₀ out : List ℤ} {at : ℕ} (W :
   writing-place = omega (arith, fill-room (W .fill) [] (sectionsWords rest) refl)
 
 pub writing-done : {all : List (List Clause)} {out₀ out : List ℤ} {at : ℕ} → Writing all [] out₀ out at → Wrote (sectionsWords all) out₀ 0 out at
-unfolding sectionsWords
+unfolding flatMap
 writing-done W = fill-done (W .fill) refl
 
 pub all-sections : (z : Puzzle) → buffer z ≡ sectionsWords (lineSections z ++ cellSections z)

@@ -2,7 +2,8 @@
 use mathlib.Core.Bool.{Bool, false, not}
 use mathlib.Core.List.{List}
 use Prim.Native.Nat.{ℕ, _≤_, _<_}
-use lib.ListN.{length, getD}
+use lib.ListN.{length}
+use Rattle.lists.specs.Each.{Every}
 use Rattle.numbering.specs.Variables.{Line, many, variable}
 use Rattle.cells.specs.declared.rule.Rule.{Rule}
 use Rattle.cells.specs.declared.rule.Rule.the-variants.{Color, Space}
@@ -11,7 +12,7 @@ abbrev pub Of : List ℕ → ℕ → Type 0
 Of model v = (0 < v) × (v ≤ length model)
 
 abbrev pub AllOf : List ℕ → List ℕ → Type 0
-AllOf model us = (i : ℕ) → i < length us → Of model (getD us i 0)
+AllOf model us = Every 0 (Of model) us
 
 -- each position of a line's blocks
 abbrev pub LineOf : List ℕ → Line → Type 0

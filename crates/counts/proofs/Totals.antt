@@ -1,7 +1,7 @@
 -- The ten families together: how many literals and words they have, and that every count fits an i32.
 use mathlib.Core.Path.{_≡_, refl, sym, ap, _∙_}
 use mathlib.Core.Bool.{false}
-use mathlib.Core.List.{List, [], _∷_, flatten}
+use mathlib.Core.List.{List, [], _∷_, flatten, flatMap}
 use Prim.Native.Nat.{ℕ, _+_, _-_, _*_, _/_, _≤_, _<_}
 use native.Mathlib.Omega.{arith}
 use native.Mathlib.Nat.{zero-add, mul-le-mul-right, mul-le-mul-left}
@@ -39,7 +39,7 @@ use Rattle.counts.proofs.Bounded.{most, most-most, lines-most, unit-mos
 
 -- the words of sections: their counts, their clauses' counts and their literals
 sections-length : (ss : List (List Clause)) → length (sectionsWords ss) ≡ length ss + length (flatten ss) + literals (flatten ss)
-unfolding sectionsWords flatten literals
+unfolding flatMap flatten literals
 sections-length [] = refl
 sections-length (s ∷ ss) =
     omega (arith, length-append (sectionWords s) (sectionsWords ss), section-length s, sections-length ss, length-append s (flatten ss), literals-append s (flatten ss))

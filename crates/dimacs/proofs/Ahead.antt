@@ -1,7 +1,7 @@
 -- The second walk, over words among which none is wrong: what is ahead of it, and what a turn finds there.
 use mathlib.Core.Path.{_≡_, refl, sym, ap, _∙_}
 use mathlib.Core.Bool.{false}
-use mathlib.Core.List.{List, [], _∷_, _++_, append-assoc, flatten}
+use mathlib.Core.List.{List, [], _∷_, _++_, append-assoc, flatten, flatMap}
 use Prim.Native.Nat.{ℕ, zero, suc, _+_, _-_, _≤_, _<_}
 use native.Mathlib.Omega.{arith}
 use lib.IntN.{ℤ, pos, natAbs}
@@ -19,15 +19,15 @@ abbrev aheadWords : List Clause → List (List Clause) → List ℤ
 aheadWords cs ss = clausesWords cs ++ sectionsWords ss
 
 next-clause : (c : Clause) (cs : List Clause) (ss : List (List Clause)) → aheadWords (c ∷ cs) ss ≡ pos (length c) ∷ (c ++ aheadWords cs ss)
-unfolding clausesWords clauseWords
+unfolding flatMap clauseWords
 next-clause c cs ss = ap (λ (l : List ℤ). pos (length c) ∷ l) (append-assoc c (clausesWords cs) (sectionsWords ss))
 
 next-section : (s : List Clause) (ss : List (List Clause)) → aheadWords [] (s ∷ ss) ≡ pos (length s) ∷ aheadWords s ss
-unfolding clausesWords sectionsWords sectionWords
+unfolding flatMap sectionWords
 next-section s ss = refl
 
 none-ahead : aheadWords [] [] ≡ []
-unfolding clausesWords sectionsWords
+unfolding flatMap
 none-ahead = refl
 
 lines-ahead : (k : ℕ) (cs : List Clause) (ss : List (List Clause)) → length (aheadWords cs ss) ≤ k → linesFrom k (length cs) (aheadWords cs ss) ≡ cs ++ flatten ss
@@ -46,7 +46,7 @@ lines-ahead (suc k) (c ∷ cs) ss h =
     )
 
 pub lines-are : (ss : List (List Clause)) → linesOf (sectionsWords ss) ≡ flatten ss
-unfolding linesOf clausesWords
+unfolding linesOf flatMap
 lines-are ss = lines-ahead (length (sectionsWords ss)) [] ss (omega arith)
 
 -- ---- what is ahead at place i, with `left` clauses in the section that the loop is in
@@ -62,7 +62,7 @@ pub record Ahead (ws : List ℤ) (i left : ℕ) (rest : List Clause) : Type 0 wh
   pub behind-fine : (s : ℕ) → s < length behind → SectionFine (getD behind s [])
 
 pub ahead-first : {ws : List ℤ} → Formed ws → Ahead ws 0 0 (linesOf ws)
-unfolding clausesWords
+unfolding flatMap
 ahead-first F = record {
   begun = [];
   behind = F .sections;

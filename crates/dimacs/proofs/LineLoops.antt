@@ -1,10 +1,11 @@
 -- The loops over all lines: how many and how long they are, and their text.
 use mathlib.Core.Path.{_≡_, refl, ap}
-use mathlib.Core.List.{List, [], _∷_, _++_, append-assoc, flatten}
+use mathlib.Core.List.{List, [], _∷_, _++_, flatten, flatMap}
 use Prim.Native.Nat.{ℕ, suc, _+_, _-_, _*_, _≤_, _<_}
 use native.Mathlib.Omega.{arith}
 use lib.IntN.{ℤ, pos, natAbs}
 use lib.ListN.{length, getD, length-append}
+use Rattle.lists.proofs.Eaches.{flat-append}
 use Rattle.lists.specs.Wrote.{Wrote}
 use Rattle.lists.proofs.Writing.{Filling, fill-first, fill-room, fill-next, fill-kept, fill-done}
 use Rattle.sections.specs.Sections.{Clause, clauseWords, clausesWords, sectionWords, sectionsWords}
@@ -15,13 +16,8 @@ use Rattle.dimacs.proofs.Ahead.{lines-are, Ahead, ahead-first, ahead-se
 
 -- ---- no more lines than words, and at most nine bytes to a word
 
-lines-append : (cs ds : List Clause) → clausesText (cs ++ ds) ≡ clausesText cs ++ clausesText ds
-unfolding clausesText
-lines-append [] ds = refl
-lines-append (c ∷ cs) ds = rw (lines-append cs ds, append-assoc)
-
 section-most : (cs : List Clause) → SectionFine cs → (length cs ≤ length (clausesWords cs)) × (length (clausesText cs) ≤ 9 * length (clausesWords cs))
-unfolding clausesText clausesWords clauseWords
+unfolding flatMap clauseWords
 section-most [] f = (omega arith, omega arith)
 section-most (c ∷ cs) f =
     let m = section-most cs (λ i h. f (suc i) (omega arith)) in
@@ -30,13 +26,13 @@ section-most (c ∷ cs) f =
 
 sections-most : (ss : List (List Clause)) → ((s : ℕ) → s < length ss → SectionFine (getD ss s []))
     → (length (flatten ss) ≤ length (sectionsWords ss)) × (length (clausesText (flatten ss)) ≤ 9 * length (sectionsWords ss))
-unfolding flatten sectionsWords sectionWords
-sections-most [] f = unfold clausesText in (omega arith, omega arith)
+unfolding flatten flatMap sectionWords
+sections-most [] f = unfold flatMap in (omega arith, omega arith)
 sections-most (s ∷ ss) f =
     let m = sections-most ss (λ i h. f (suc i) (omega arith)) in
     let n = section-most s (f 0 (omega arith)) in
     let w = length-append (clausesWords s) (sectionsWords ss) in
-    (omega (arith, m .0, n .0, w, length-append s (flatten ss)), omega (arith, m .1, n .1, w, ap length (lines-append s (flatten ss)), length-append (clausesText s) (clausesText (flatten ss))))
+    (omega (arith, m .0, n .0, w, length-append s (flatten ss)), omega (arith, m .1, n .1, w, ap length (flat-append clauseText s (flatten ss)), length-append (clausesText s) (clausesText (flatten ss))))
 
 module _ {ws : List ℤ} (F : Formed ws) where
   pub lines-few : length (linesOf ws) ≤ 1073741824
@@ -65,7 +61,7 @@ module _ {ws : List ℤ} {clauses bytes left i : ℕ} (C : Counting ws clauses b
     clauses-split = omega (arith, ap length (L .rest-is))
 
     bytes-split : length (clausesText (C .rest)) ≡ b + length (clausesText (L .more))
-    unfolding clausesText
+    unfolding flatMap
     bytes-split = rw (L .rest-is) (omega (arith, length-append (clauseText (lineAt ws i n)) (clausesText (L .more))))
 
     pub counting-fits : Formed ws → (bytes + b ≤ 9663676416) × (clauses + 1 ≤ 1073741824)
@@ -80,7 +76,7 @@ module _ {ws : List ℤ} {clauses bytes left i : ℕ} (C : Counting ws clauses b
     }
 
   pub counting-done : length ws ≤ i → (clauses ≡ length (linesOf ws)) × (bytes ≡ length (clausesText (linesOf ws)))
-  unfolding clausesText
+  unfolding flatMap
   counting-done h =
       let d = ahead-done (C .ahead) h in
       (omega (arith, C .clauses-are, ap length d), omega (arith, C .bytes-are, ap (λ l. length (clausesText l)) d))
@@ -104,7 +100,7 @@ module _ {ws : List ℤ} {out₀ out : List ℕ} {at₀ to left i : ℕ} (F : Li
 
   module _ {n : ℕ} (L : Line ws i left (F .rest) n) where
     splits : clausesText (F .rest) ≡ clauseText (lineAt ws i n) ++ clausesText (L .more)
-    unfolding clausesText
+    unfolding flatMap
     splits = rw (L .rest-is)
 
     pub line-room : to + length (clauseText (lineAt ws i n)) ≤ length out
@@ -114,5 +110,5 @@ module _ {ws : List ℤ} {out₀ out : List ℕ} {at₀ to left i : ℕ} (F : Li
     lines-next w = record { rest = L .more; ahead = L .ahead; fill = fill-next (F .fill) _ _ splits w }
 
   pub lines-wrote : length ws ≤ i → Wrote (clausesText (linesOf ws)) out₀ at₀ out to
-  unfolding clausesText
+  unfolding flatMap
   lines-wrote h = fill-done (F .fill) (ap clausesText (ahead-done (F .ahead) h))

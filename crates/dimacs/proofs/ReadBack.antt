@@ -1,6 +1,6 @@
 -- The text can be read back: a number ends at the first byte that is no digit, a line at its newline. So no two formulas have one text.
 use mathlib.Core.Path.{_≡_, refl, sym, ap, ap₂, _∙_}
-use mathlib.Core.List.{List, [], _∷_, _++_, append-assoc}
+use mathlib.Core.List.{List, [], _∷_, _++_, append-assoc, flatMap}
 use Prim.Native.Nat.{ℕ, suc, _<_}
 use native.Mathlib.Omega.{arith}
 use lib.IntN.{ℤ, pos, negsuc}
@@ -74,7 +74,7 @@ line-some [] = omega arith
 line-some (l ∷ c) = omega (arith, length-append (literalText l) (space ∷ clauseText c))
 
 lines-once : (cs ds : List Clause) → clausesText cs ≡ clausesText ds → cs ≡ ds
-unfolding clausesText
+unfolding flatMap
 lines-once [] [] e = refl
 lines-once [] (d ∷ ds) e = absurd (omega (arith, ap length e, length-append (clauseText d) (clausesText ds), line-some d))
 lines-once (c ∷ cs) [] e = absurd (omega (arith, ap length e, length-append (clauseText c) (clausesText cs), line-some c))

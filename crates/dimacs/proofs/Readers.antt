@@ -1,7 +1,7 @@
 -- What each reader reads: exactly the words of clauses with good literals, and such words are read as those.
 use mathlib.Core.Path.{_≡_, refl}
 use mathlib.Core.Bool.{false}
-use mathlib.Core.List.{List, [], _∷_}
+use mathlib.Core.List.{List, [], _∷_, flatMap}
 use Prim.Native.Nat.{ℕ}
 use lib.IntN.{ℤ, pos}
 use lib.ListN.{length}
@@ -32,10 +32,10 @@ module _ (v : ℕ) where
   FineSection = Every [] FineClause
 
   pub section-reader : Reader (readSection v) sectionWords FineSection
-  unfolding clausesWords sectionWords
+  unfolding flatMap sectionWords
   section-reader = listed-reader [] clause-reader clausesWords refl (λ c cs. refl) pos (λ n. refl) 22 is-positive 22 (λ n. refl)
 
   -- n of them
   pub sections-reader : (n : ℕ) → Reader (times n (readSection v)) sectionsWords (λ ss. (length ss ≡ n) × Every [] FineSection ss)
-  unfolding sectionsWords
+  unfolding flatMap
   sections-reader n = times-reader [] section-reader sectionsWords refl (λ s ss. refl) n

@@ -2,25 +2,26 @@
 -- has no clause left, the next word counts the clauses of another.
 use mathlib.Core.Path.{_≡_}
 use mathlib.Core.List.{List, [], _∷_}
-use Prim.Native.Nat.{ℕ, zero, suc, _≤_, _<_}
+use Prim.Native.Nat.{ℕ, zero, suc, _≤_}
 use lib.IntN.{pos, natAbs, ℤ}
-use lib.ListN.{length, take, drop, getD}
+use lib.ListN.{length, take, drop}
+use Rattle.lists.specs.Each.{Every}
 use Rattle.literals.specs.Literals.{IsVariable, variable}
 use Rattle.sections.specs.Sections.{Clause, sectionsWords}
 use Rattle.dimacs.specs.Text.{clausesText}
 use Rattle.dimacs.specs.declared.count.Size.{Size}
 
 abbrev pub AreVariables : Clause → Type 0
-AreVariables c = (j : ℕ) → j < length c → IsVariable (variable (getD c j (pos 0)))
+AreVariables c = Every (pos 0) (λ l. IsVariable (variable l)) c
 
 abbrev pub SectionFine : List Clause → Type 0
-SectionFine cs = (i : ℕ) → i < length cs → AreVariables (getD cs i [])
+SectionFine cs = Every [] AreVariables cs
 
 -- they are the words of sections, and no more
 pub record Formed (ws : List ℤ) : Type 0 where
   pub sections : List (List Clause)
   pub words-are : ws ≡ sectionsWords sections
-  pub fine : (s : ℕ) → s < length sections → SectionFine (getD sections s [])
+  pub fine : Every [] SectionFine sections
   pub few : length ws ≤ 1073741824
 
 -- the clauses of at most k counts, with `left` of them in the section that the loop is in

@@ -1,6 +1,6 @@
 -- Document 01: the DIMACS CNF text, in bytes. `p cnf V C`, then a line per clause; literals and 0 parted by one space, a newline after each line, no comments.
 use mathlib.Core.Bool.{cond}
-use mathlib.Core.List.{List, [], _∷_, _++_}
+use mathlib.Core.List.{List, [], _∷_, _++_, flatMap}
 use Prim.Native.Nat.{ℕ, zero, suc, _+_, _/_, _%_}
 use lib.IntN.{ℤ}
 use lib.Dec.{ltb}
@@ -40,9 +40,8 @@ unfoldable pub clauseText : Clause → List ℕ
 clauseText [] = digit 0 ∷ newline ∷ []
 clauseText (l ∷ c) = literalText l ++ (space ∷ clauseText c)
 
-unfoldable pub clausesText : List Clause → List ℕ
-clausesText [] = []
-clausesText (c ∷ cs) = clauseText c ++ clausesText cs
+abbrev pub clausesText : List Clause → List ℕ
+clausesText cs = flatMap clauseText cs
 
 -- p cnf
 abbrev pub problem : List ℕ

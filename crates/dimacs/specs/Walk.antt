@@ -7,7 +7,7 @@ use lib.Dec.{ltb}
 use lib.ListN.{length}
 use Rattle.refusals.specs.Verdict.{Verdict, refuse}
 use Rattle.refusals.specs.Walk.{Walk, walked, readOr, word, times, counted}
-use Rattle.literals.specs.Literals.{isNegative, offLiteral}
+use Rattle.literals.specs.Literals.{largest, isNegative, offLiteral}
 use Rattle.sections.specs.Sections.{Clause}
 
 abbrev pub readLiteral : ℕ → ℕ → List ℤ → Walk ℤ ℤ
@@ -22,7 +22,7 @@ readSection v = counted natAbs (word 22 isNegative 22) (readClause v)
 -- of v variables and n sections: 21 in its order, then 22
 abbrev pub wordChecks : ℕ → ℕ → List ℤ → Verdict
 wordChecks v n ws =
-    refuse (ltb 1000000 v) 21 0 (refuse (ltb 16 n) 21 1 (refuse (ltb 1073741824 (length ws)) 21 2
+    refuse (ltb largest v) 21 0 (refuse (ltb 16 n) 21 1 (refuse (ltb 1073741824 (length ws)) 21 2
     (walked 22 (times n (readSection v) 0 ws))))
 
 -- all clauses that they hold, one section after another

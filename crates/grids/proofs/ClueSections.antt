@@ -1,13 +1,13 @@
 -- The words of a section of clues, line by line.
 use mathlib.Core.Path.{_≡_, refl, ap, ap₂}
-use mathlib.Core.List.{List, [], _∷_, append-nil}
+use mathlib.Core.List.{List, [], _∷_, append-nil, flatMap}
 use Prim.Native.Nat.{ℕ, zero, suc, _+_, _-_, _*_, _/_, _≤_, _<_}
 use native.Mathlib.Omega.{arith}
 use native.Mathlib.Numerals.{add-one}
 use lib.ListN.{length, take, drop, set, length-append, length-set}
 use Rattle.lists.specs.Each.{each, tab}
 use Rattle.lists.specs.Wrote.{Wrote}
-use Rattle.lists.proofs.Eaches.{length-tab}
+use Rattle.lists.proofs.Eaches.{length-tab, flat-append}
 use Rattle.lists.proofs.Parts.{part-within, part-tab, each-most}
 use Rattle.lists.proofs.Writing.{wrote-after, wrote-ahead}
 use Rattle.lists.proofs.Emitting.{Emitting, emit-first, emit-done}
@@ -17,7 +17,6 @@ use Rattle.lines.specs.Strided.{strided}
 use Rattle.lines.specs.Calls.{lineWords}
 use Rattle.lines.proofs.Coloring.{line-words, line-words-length, runs-few}
 use Rattle.puzzles.specs.Puzzle.{clueWords, cluesWords, linesWords}
-use Rattle.puzzles.proofs.Lines.{clues-append}
 use Rattle.grids.specs.Grid.{row, rowClues}
 use Rattle.grids.specs.Sized.{Lined, laidClues}
 use Rattle.grids.proofs.Cells.{row-length}
@@ -49,9 +48,9 @@ module _ (line out : List ℕ) (at : ℕ) (r : at + length (clueWords (runs line
 -- ---- a section
 
 clues-tab : (n : ℕ) (f : ℕ → List Block) → cluesWords (tab n f) ≡ each n (λ i. clueWords (f i))
-unfolding tab each cluesWords
+unfolding tab each flatMap
 clues-tab zero f = refl
-clues-tab (suc n) f = rw (clues-append (tab n f) (f n ∷ []), clues-tab n f, append-nil)
+clues-tab (suc n) f = rw (flat-append clueWords (tab n f) (f n ∷ []), clues-tab n f, append-nil)
 
 module _ (n : ℕ) (f : ℕ → List Block) where
   section-is : linesWords (tab n f) ≡ n ∷ each n (λ i. clueWords (f i))

@@ -50,6 +50,11 @@ module _ {A : Type 0} where
   each-front n f =
       ap (λ (m : ℕ). each m f) (sym (one-add n)) ∙ each-plus 1 n f ∙ ap (λ (l : List A). f 0 ++ l) (each-same n (λ k. f (1 + k)) (λ k. f (suc k)) (λ k h. ap f (one-add k)))
 
+  pub flat-append : {B : Type 0} (f : B → List A) (l m : List B) → flatMap f (l ++ m) ≡ flatMap f l ++ flatMap f m
+  unfolding flatMap
+  flat-append f [] m = refl
+  flat-append f (b ∷ l) m = rw (flat-append f l m, append-assoc)
+
   -- a part for each element of a list
   pub flat-each : {B : Type 0} (d : B) (f : B → List A) (l : List B) → flatMap f l ≡ each (length l) (λ k. f (getD l k d))
   unfolding flatMap

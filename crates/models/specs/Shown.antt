@@ -1,8 +1,8 @@
 -- What is shown and blocked, of cells whose variables begin at v.
 use mathlib.Core.List.{List, [], _∷_}
 use Prim.Native.Nat.{ℕ, _+_, _*_, _<_}
-use lib.ListN.{length, getD}
-use Rattle.lists.specs.Each.{each, tab, when}
+use lib.ListN.{length}
+use Rattle.lists.specs.Each.{each, tab, when, Every}
 use Rattle.literals.specs.Literals.{negative}
 use Rattle.sections.specs.Sections.{Clause}
 use Rattle.truth.specs.Truth.{Assignment}
@@ -17,4 +17,4 @@ unfoldable pub negated : Assignment → ℕ → ℕ → Clause
 negated β v n = each n (λ k. when (β (v + k)) (negative (v + k) ∷ []))
 
 abbrev pub AreBytes : List ℕ → Type 0
-AreBytes palette = (r : ℕ) → r < length palette → getD palette r 0 < 256
+AreBytes palette = Every 0 (λ c. c < 256) palette

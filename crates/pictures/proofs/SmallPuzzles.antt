@@ -2,7 +2,7 @@
 use mathlib.Core.Path.{_≡_, refl, sym, ap, subst, _∙_}
 use mathlib.Core.Logic.{inr}
 use mathlib.Core.Bool.{false≢true}
-use mathlib.Core.List.{List, flatten}
+use mathlib.Core.List.{List, flatten, flatMap}
 use Prim.Native.Nat.{ℕ}
 use native.Mathlib.Omega.{arith}
 use lib.ListN.{length}
@@ -14,7 +14,7 @@ use Rattle.bits.specs.Bits.{bit, powers, withBit}
 use Rattle.lines.specs.Clue.{words, gap, packedFrom, packed, lastEnd, minSpace, positions, conflict}
 use Rattle.lines.specs.Line.{run, runsFrom, runs}
 use Rattle.lines.specs.Arrangement.{blockAt}
-use Rattle.puzzles.specs.Puzzle.{clueWords, cluesWords, linesWords, cellsWords, puzzleWords, clueAt, lengthAt}
+use Rattle.puzzles.specs.Puzzle.{clueWords, linesWords, cellsWords, puzzleWords, clueAt, lengthAt}
 use Rattle.puzzles.specs.Colors.{withColors, withLines, colorSet, known, solved, offSolved}
 use Rattle.puzzles.specs.Walk.{readBlock, readPuzzle}
 use Rattle.puzzles.specs.Checks.{spaces, meaningChecks, puzzle}
@@ -36,7 +36,7 @@ pub computed : Computed
 unfolding
     p8 p10 p11 p12 two each tab pairs product firstOff bit powers withBit
     gap packedFrom packed lastEnd minSpace positions conflict words run runsFrom runs
-    clueWords cluesWords linesWords cellsWords puzzleWords clueAt lengthAt withColors withLines colorSet known solved offSolved
+    clueWords flatMap linesWords cellsWords puzzleWords clueAt lengthAt withColors withLines colorSet known solved offSolved
     walked readOr word times counted readBlock readPuzzle spaces meaningChecks
     firstAt lineAt palette cellFirst variables atLeastOne atMostOne
     blockPositions blockOnce nonOverlap Placement.ruled ofLines covering Cells.ruled ofColor byColumn precomputed precomputedCells families flatten

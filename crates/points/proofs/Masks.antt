@@ -1,7 +1,7 @@
 -- What a mask says of a colour: a unit clause, or nothing.
 use mathlib.Core.Path.{_≡_}
 use mathlib.Core.Bool.{true, false}
-use mathlib.Core.List.{List, [], _∷_}
+use mathlib.Core.List.{List, [], _∷_, flatMap}
 use Prim.Native.Nat.{ℕ, _+_, _^_, _≤_, _<_}
 use lib.Count.{ones}
 use lib.IntN.{ℤ}
@@ -52,11 +52,11 @@ module _ (mask c v : ℕ) (small : mask < 2 ^ 32) where
 
 module _ (cs : List Clause) (a : ℤ) (e : cs ≡ (a ∷ []) ∷ []) where
   pub unit-room : (at n : ℕ) → at + length (clausesWords cs) ≤ n → at + 2 ≤ n
-  unfolding clausesWords clauseWords
+  unfolding flatMap clauseWords
   unit-room at n h = rw e at h
 
   pub unit-wrote : {z : ℤ} → z ≡ a → {out out₁ : List ℤ} {at at₁ : ℕ} → Wrote (clauseWords (z ∷ [])) out at out₁ at₁ → Wrote (clausesWords cs) out at out₁ at₁
   unit-wrote q w = rw e (said (a ∷ []) (rw q at w))
 
 pub none-wrote : (cs : List Clause) → cs ≡ [] → (out : List ℤ) (at : ℕ) → Wrote (clausesWords cs) out at out at
-none-wrote cs e out at = rw e (unfold clausesWords in wrote-none out at)
+none-wrote cs e out at = rw e (unfold flatMap in wrote-none out at)

@@ -13,8 +13,7 @@ use Rattle.refusals.proofs.Answering.{refuse-accepted}
 use Rattle.refusals.proofs.Readers.{Reads, walked-is}
 use Rattle.puzzles.specs.Puzzle.{Puzzle, width, height}
 use Rattle.puzzles.specs.Checks.{colors}
-use Rattle.probes.specs.Probes.{Probe, readProbes, probes, probeChecks}
-use Rattle.probes.specs.ByWords.{checksOn}
+use Rattle.probes.specs.Probes.{Probe, readProbes, probes, probeChecks, checksOn}
 use Rattle.probes.specs.Words.{listWords}
 use Rattle.probes.proofs.ProbeReaders.{FineProbe, noProbe, probes-reader}
 

@@ -15,9 +15,9 @@ use Rattle.puzzles.proofs.Accepting.{accepted-is}
 use Rattle.boards.specs.Reading.{Held}
 use Rattle.boards.specs.declared.board.Board.{Board}
 use Rattle.numbering.specs.Variables.{palette}
-use Rattle.probes.specs.Probes.{probes, probeChecks}
+use Rattle.probes.specs.Probes.{probes, probeChecks, checksOn}
 use Rattle.probes.specs.Implications.{implications}
-use Rattle.probes.specs.ByWords.{checksOn, ofProbes}
+use Rattle.probes.specs.ByWords.{ofProbes}
 use Rattle.probes.proofs.AcceptedProbes.{accepted-probes}
 use Rattle.probes.proofs.ProbeClauses.{probes-are}
 

@@ -1,7 +1,7 @@
 -- What a premise and an impact say of a cell, colour by colour, as it is written.
 use mathlib.Core.Path.{_≡_, ap, _∙_}
 use mathlib.Core.Bool.{true, false}
-use mathlib.Core.List.{List, [], _∷_, _++_, map}
+use mathlib.Core.List.{List, [], _∷_, _++_, map, flatMap}
 use Prim.Native.Nat.{ℕ, _+_, _≤_, _<_}
 use native.Mathlib.Omega.{arith}
 use native.Mathlib.Decide.{ℕ-discrete}
@@ -84,7 +84,7 @@ module _ (premise : Clause) (c d u : ℕ) where
 
     pub implied-other : (d ≡ c → ⊥) → (out : List ℤ) (at : ℕ) → Wrote (clausesWords clauses) out at out at
     unfolding implied
-    implied-other e out at = rw (ne-eqb c 0 some, ne-eqb d c e) (unfold clausesWords in wrote-none out at)
+    implied-other e out at = rw (ne-eqb c 0 some, ne-eqb d c e) (unfold flatMap in wrote-none out at)
 
 -- one clause
 module _ (cs : List Clause) {c : Clause} (e : cs ≡ c ∷ []) where

@@ -1,13 +1,13 @@
 -- The loop that counts the clauses and words of the probes, one after another.
 use mathlib.Core.Path.{_≡_, refl}
-use mathlib.Core.List.{List}
+use mathlib.Core.List.{List, flatMap}
 use Prim.Native.Nat.{ℕ, _+_, _-_, _*_, _^_, _≤_, _<_}
 use native.Mathlib.Omega.{arith}
 use native.Mathlib.Numerals.{add-one}
 use lib.ListN.{length, take, drop, getD, length-append}
+use Rattle.lists.proofs.Eaches.{flat-append}
 use Rattle.lists.specs.Each.{each}
-use Rattle.sections.specs.Sections.{Clause, clausesWords}
-use Rattle.sections.proofs.ClauseLists.{clauses-append}
+use Rattle.sections.specs.Sections.{Clause, clausesWords, clauseWords}
 use Rattle.boards.specs.declared.board.Board.{Board}
 use Rattle.numbering.specs.Variables.{palette}
 use Rattle.probes.specs.declared.count.Size.{Size}
@@ -28,7 +28,7 @@ pub record Counting (b : Board) (us : List ℕ) (clauses words i l : ℕ) : Type
   pub words-most : words ≤ 363 * i
 
 pub counting-first : (b : Board) (us : List ℕ) → 0 < length us → Counting b us 0 0 1 0
-unfolding each placeAt clausesWords
+unfolding each placeAt flatMap
 counting-first b us h = record { within = omega arith; place-is = refl; place-most = h; clauses-is = refl; words-is = refl; clauses-most = omega arith; words-most = omega arith }
 
 module _ {b : Board} {us : List ℕ} {clauses words i l : ℕ} (C : Counting b us clauses words i l) where
@@ -53,7 +53,7 @@ module _ {b : Board} {us : List ℕ} {clauses words i l : ℕ} (C : Counting b u
           place-is = next-place A (C .place-is) h e;
           place-most = next-within A (C .place-is) h e;
           clauses-is = rw (add-one l) (omega (arith, C .clauses-is, T .clauses-is, length-append (each l f) (f l)));
-          words-is = rw (add-one l, clauses-append (each l f) (f l)) (omega (arith, C .words-is, T .words-is, length-append (clausesWords (each l f)) (clausesWords (f l))));
+          words-is = rw (add-one l, flat-append clauseWords (each l f) (f l)) (omega (arith, C .words-is, T .words-is, length-append (clausesWords (each l f)) (clausesWords (f l))));
           clauses-most = omega (arith, C .clauses-most, most .0);
           words-most = omega (arith, C .words-most, most .1);
         }

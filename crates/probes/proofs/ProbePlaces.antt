@@ -1,7 +1,7 @@
 -- Where accepted words hold their probes, and the claims of a probe.
 use mathlib.Core.Path.{_≡_, refl, sym, ap, _∙_}
 use mathlib.Core.Bool.{true}
-use mathlib.Core.List.{List, [], _∷_, _++_}
+use mathlib.Core.List.{List, [], _∷_, _++_, flatMap}
 use Prim.Native.Nat.{ℕ, zero, suc, _+_, _-_, _*_, _/_, _≤_, _<_}
 use native.Mathlib.Omega.{arith}
 use native.Mathlib.Nat.{add-assoc}
@@ -18,7 +18,7 @@ use Rattle.probes.proofs.AcceptedProbes.{Accepted, heldIn}
 -- ---- claims, three words each
 
 claims-length : (qs : List Claim) → length (claimsWords qs) ≡ 3 * length qs
-unfolding claimsWords
+unfolding flatMap
 claims-length [] = refl
 claims-length (q ∷ qs) = omega (arith, claims-length qs)
 
@@ -26,7 +26,7 @@ pub claims-many : (qs : List Claim) → length (claimsWords qs) / 3 ≡ length q
 claims-many qs = omega (arith, claims-length qs)
 
 pub claims-at : (qs : List Claim) (j : ℕ) → j < length qs → claimAt (claimsWords qs) (3 * j) ≡ getD qs j noClaim
-unfolding claimsWords
+unfolding flatMap
 claims-at [] j h = absurd (omega arith)
 claims-at (q ∷ qs) zero h = refl
 claims-at (q ∷ qs) (suc j) h =
@@ -78,7 +78,7 @@ module _ {w h K : ℕ} {us : List ℕ} (A : Accepted w h K us) where
   first-is = (omega (arith, ap length (A .words-are)), ap (λ (l : List ℕ). getD l 0 0) (A .words-are))
 
   split-at : (k : ℕ) → k < length ps → drop (placeAt us k) us ≡ probesWords (drop k ps) → drop (placeAt us k) us ≡ probeWords (getD ps k noProbe) ++ probesWords (drop (suc k) ps)
-  split-at k h e = e ∙ rw (drop-cons ps k noProbe h) (unfold probesWords in refl)
+  split-at k h e = e ∙ rw (drop-cons ps k noProbe h) (unfold flatMap in refl)
 
   rest-at : (k : ℕ) → k ≤ length ps → drop (placeAt us k) us ≡ probesWords (drop k ps)
   rest-at zero h = unfold placeAt in ap (drop 1) (A .words-are)

@@ -1,7 +1,7 @@
 -- What the walk over probe words reads: exactly the words of fine claims and probes.
 use mathlib.Core.Path.{_≡_, refl, ap, _∙_}
 use mathlib.Core.Bool.{true, false, not}
-use mathlib.Core.List.{List, [], _∷_, _++_}
+use mathlib.Core.List.{List, [], _∷_, _++_, flatMap}
 use Prim.Native.Nat.{ℕ, _+_, _≤_, _<_}
 use native.Mathlib.Omega.{arith}
 use lib.Dec.{leb, ltb}
@@ -81,7 +81,7 @@ module _ (w h K : ℕ) where
   impactsWords qs = length qs ∷ claimsWords qs
 
   impacts-reader : Reader (listed (readClaim w h)) impactsWords (Every noClaim (FineClaim w h))
-  unfolding claimsWords
+  unfolding flatMap
   impacts-reader = listed-reader noClaim (claim-reader w h) claimsWords refl (λ q qs. refl) (λ n. n) (λ n. refl) 1 (λ n o. refl) 0 (λ n. refl)
 
   probe-only : (i : ℕ) (ws : List ℕ) (p : Probe) (j : ℕ) (us : List ℕ) → readProbe w h K i ws ≡ got p j us → Reads probeWords (FineProbe w h K) i ws p j us
@@ -110,5 +110,5 @@ module _ (w h K : ℕ) where
   probe-reader = record { only = probe-only; back = probe-back }
 
   pub probes-reader : Reader (listed (readProbe w h K)) listWords (Every noProbe (FineProbe w h K))
-  unfolding probesWords
+  unfolding flatMap
   probes-reader = listed-reader noProbe probe-reader probesWords refl (λ p ps. refl) (λ n. n) (λ n. refl) 1 (λ n o. refl) 0 (λ n. refl)

@@ -3,21 +3,15 @@ use mathlib.Core.Bool.{cond, _||_}
 use mathlib.Core.List.{List, [], _∷_}
 use Prim.Native.Nat.{ℕ, zero, suc, _+_, _-_, _*_, _/_, _≤_, _<_}
 use lib.IntN.{ℤ}
-use lib.Dec.{eqb, ltb}
+use lib.Dec.{eqb}
 use lib.ListN.{length, take, drop, getD}
 use Rattle.lists.specs.Each.{each, when}
-use Rattle.refusals.specs.Verdict.{Verdict, refuse}
-use Rattle.refusals.specs.Walk.{walked}
 use Rattle.literals.specs.Literals.{positive, negative}
 use Rattle.sections.specs.Sections.{Clause}
 use Rattle.boards.specs.declared.board.Board.{Board}
-use Rattle.probes.specs.Probes.{Claim, readProbes}
+use Rattle.probes.specs.Probes.{Claim}
 use Rattle.probes.specs.Words.{claimAt}
 use Rattle.probes.specs.Implications.{premiseOf, impactOf}
-
--- 20, the walk, 11, on a grid of w columns and h rows with the colour set K
-abbrev pub checksOn : ℕ → ℕ → ℕ → List ℕ → Verdict
-checksOn w h K us = refuse (ltb 1048576 (length us)) 20 (length us) (walked 11 (readProbes w h K us))
 
 -- ---- of the words of one probe
 

@@ -46,9 +46,13 @@ readProbe w h K i ws =
 unfoldable pub readProbes : ℕ → ℕ → ℕ → List ℕ → Walk ℕ (List Probe)
 readProbes w h K ws = listed (readProbe w h K) 0 ws
 
--- the probes that words hold for a puzzle, and their refusals: 20, the walk, 11
+-- 20, the walk, 11
+abbrev pub checksOn : ℕ → ℕ → ℕ → List ℕ → Verdict
+checksOn w h K ws = refuse (ltb 1048576 (length ws)) 20 (length ws) (walked 11 (readProbes w h K ws))
+
+-- of a puzzle: the probes that words hold, and their refusals
 abbrev pub probes : Puzzle → List ℕ → List Probe
 probes z ws = readOr [] (readProbes (width z) (height z) (colors z) ws)
 
 abbrev pub probeChecks : Puzzle → List ℕ → Verdict
-probeChecks z ws = refuse (ltb 1048576 (length ws)) 20 (length ws) (walked 11 (readProbes (width z) (height z) (colors z) ws))
+probeChecks z ws = checksOn (width z) (height z) (colors z) ws

@@ -1,5 +1,5 @@
 -- The words of claims and probes.
-use mathlib.Core.List.{List, [], _∷_, _++_}
+use mathlib.Core.List.{List, [], _∷_, _++_, flatMap}
 use Prim.Native.Nat.{ℕ, _+_}
 use lib.ListN.{length, getD}
 use Rattle.probes.specs.Probes.{Claim, Probe}
@@ -12,17 +12,15 @@ claimAt ws i = record { x = getD ws i 0; y = getD ws (i + 1) 0; color = getD ws 
 abbrev pub claimWords : Claim → List ℕ
 claimWords q = q .x ∷ q .y ∷ q .color ∷ []
 
-unfoldable pub claimsWords : List Claim → List ℕ
-claimsWords [] = []
-claimsWords (q ∷ qs) = claimWords q ++ claimsWords qs
+abbrev pub claimsWords : List Claim → List ℕ
+claimsWords qs = flatMap claimWords qs
 
 -- and impact count, then the impacts
 unfoldable pub probeWords : Probe → List ℕ
 probeWords p = claimWords (p .premise) ++ (length (p .impacts) ∷ claimsWords (p .impacts))
 
-unfoldable pub probesWords : List Probe → List ℕ
-probesWords [] = []
-probesWords (p ∷ ps) = probeWords p ++ probesWords ps
+abbrev pub probesWords : List Probe → List ℕ
+probesWords ps = flatMap probeWords ps
 
 -- all of them, after their count
 abbrev pub listWords : List Probe → List ℕ

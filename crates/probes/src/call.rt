@@ -19,9 +19,9 @@ ghost use Rattle.puzzles.specs.Checks.{puzzle, puzzleChecks};
 ghost use Rattle.boards.specs.Reading.{Stands};
 ghost use Rattle.numbering.specs.Variables as N;
 ghost use Rattle.probes.specs.Probes as P;
-ghost use Rattle.probes.specs.Probes.{probeChecks};
+ghost use Rattle.probes.specs.Probes.{probeChecks, checksOn};
 ghost use Rattle.probes.specs.Implications.{implications};
-ghost use Rattle.probes.specs.ByWords.{checksOn, ofProbes};
+ghost use Rattle.probes.specs.ByWords.{ofProbes};
 
 // Once the probes are checked: 12, or the section.
 fn write_section(board: Board, probe: &[u32], out: &mut [i32]) -> Answer

@@ -8,8 +8,8 @@ ghost use Prim.Native.Nat.{ℕ, _≤_, _<_};
 ghost use lib.ListN.{length, getD};
 ghost use Rattle.refusals.specs.Verdict.{accepted};
 ghost use Rattle.numbering.specs.Variables.{palette};
-ghost use Rattle.probes.specs.Probes.{isColor};
-ghost use Rattle.probes.specs.ByWords.{checksOn, ofProbe, ofProbes};
+ghost use Rattle.probes.specs.Probes.{isColor, checksOn};
+ghost use Rattle.probes.specs.ByWords.{ofProbe, ofProbes};
 ghost use Rattle.probes.specs.Sizes.{impactCount, impactsCount, Sized};
 
 // Clauses, and their words.

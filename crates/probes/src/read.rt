@@ -9,8 +9,7 @@ ghost use Prim.Native.Nat.{_+_, _^_, _<_};
 ghost use lib.ListN.{length};
 ghost use Rattle.refusals.specs.Told.{told};
 ghost use Rattle.refusals.specs.Walk.{outcome, times};
-ghost use Rattle.probes.specs.Probes.{readClaim, listed, isColor, readProbe, readProbes};
-ghost use Rattle.probes.specs.ByWords.{checksOn};
+ghost use Rattle.probes.specs.Probes.{readClaim, listed, isColor, readProbe, readProbes, checksOn};
 
 fn read_claim(width: usize, height: usize, part: &[u32], at: usize) -> Answer
     requires { ⌜ at + length (now part) < 2 ^ 63 ⌝ }

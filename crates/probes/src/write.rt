@@ -14,7 +14,8 @@ ghost use Rattle.sections.specs.Sections.{clausesWords, sectionWords};
 ghost use Rattle.puzzles.specs.Puzzle.{Puzzle};
 ghost use Rattle.numbering.specs.Variables as N;
 ghost use Rattle.cells.specs.Given.{Shows};
-ghost use Rattle.probes.specs.ByWords.{checksOn, AllOnBoard, ProbeOnBoard, ofImpacts, ofProbe, ofProbes};
+ghost use Rattle.probes.specs.Probes.{checksOn};
+ghost use Rattle.probes.specs.ByWords.{AllOnBoard, ProbeOnBoard, ofImpacts, ofProbe, ofProbes};
 
 // The first variable of the cell of column x and row y, on a board of k colours.
 fn first_of(board: Board, k: usize, x: u32, y: u32) -> usize

@@ -1,7 +1,7 @@
 -- A puzzle's lines: columns from 0, rows from width.
-use mathlib.Core.Path.{_≡_, refl}
+use mathlib.Core.Path.{_≡_}
 use mathlib.Core.Bool.{false}
-use mathlib.Core.List.{List, [], _∷_, _++_, append-assoc}
+use mathlib.Core.List.{List, []}
 use Prim.Native.Nat.{ℕ, _+_, _-_, _≤_, _<_}
 use native.Mathlib.Omega.{arith}
 use native.Mathlib.Nat.{zero-add}
@@ -13,13 +13,8 @@ use borrow.Author.Tests.{lt-ltb, le-ltb}
 use Rattle.refusals.specs.Verdict.{Verdict, accepted, refused}
 use Rattle.refusals.proofs.Offending.{off-none, off-at}
 use Rattle.lines.specs.Clue.{Block, gap, minSpace}
-use Rattle.puzzles.specs.Puzzle.{Puzzle, width, height, lines, cluesWords, clueAt, lengthAt}
+use Rattle.puzzles.specs.Puzzle.{Puzzle, width, height, lines, clueAt, lengthAt}
 use Rattle.puzzles.specs.Checks.{spaceChecks, spaces}
-
-pub clues-append : (a b : List (List Block)) → cluesWords (a ++ b) ≡ cluesWords a ++ cluesWords b
-unfolding cluesWords
-clues-append [] b = refl
-clues-append (bs ∷ a) b = rw (clues-append a b, append-assoc)
 
 module _ (z : Puzzle) (l : ℕ) where
   pub clue-column : l < width z → clueAt z l ≡ getD (z .columns) l []

@@ -1,7 +1,7 @@
 -- What each reader reads: exactly the words of something fine, and such words are read as that.
 use mathlib.Core.Path.{_≡_, refl, ap, _∙_}
 use mathlib.Core.Bool.{false, not}
-use mathlib.Core.List.{List, [], _∷_, _++_, append-assoc}
+use mathlib.Core.List.{List, [], _∷_, _++_, append-assoc, flatMap}
 use Prim.Native.Nat.{ℕ, _+_, _*_, _≤_, _<_}
 use native.Mathlib.Omega.{arith}
 use lib.Dec.{eqb, ltb}
@@ -81,7 +81,7 @@ abbrev pub FineLines : List (List Block) → Type 0
 FineLines ls = (offSize (length ls) ≡ false) × Every [] FineClue ls
 
 pub lines-reader : Reader readLines linesWords FineLines
-unfolding cluesWords linesWords
+unfolding flatMap linesWords
 lines-reader = counted-reader [] clue-reader cluesWords refl (λ bs ls. refl) (λ n. n) (λ n. refl) 1 (λ n o. refl) 2
 
 -- ---- cells

@@ -1,6 +1,6 @@
 -- Document 01, "Words of a puzzle": what a puzzle is, and its words.
 use mathlib.Core.Bool.{cond}
-use mathlib.Core.List.{List, [], _∷_, _++_}
+use mathlib.Core.List.{List, [], _∷_, _++_, flatMap}
 use Prim.Native.Nat.{ℕ, _+_}
 use lib.Dec.{ltb}
 use lib.ListN.{length, getD}
@@ -24,9 +24,8 @@ height z = length (z .rows)
 unfoldable pub clueWords : List Block → List ℕ
 clueWords bs = length bs ∷ words bs
 
-unfoldable pub cluesWords : List (List Block) → List ℕ
-cluesWords [] = []
-cluesWords (bs ∷ ls) = clueWords bs ++ cluesWords ls
+abbrev pub cluesWords : List (List Block) → List ℕ
+cluesWords ls = flatMap clueWords ls
 
 -- each section after its count
 unfoldable pub linesWords : List (List Block) → List ℕ

@@ -1,28 +1,24 @@
 -- The words and the literals of clauses, list by list.
 use mathlib.Core.Path.{_≡_, refl, sym}
-use mathlib.Core.List.{List, [], _∷_, _++_, append-assoc, append-nil}
+use mathlib.Core.List.{List, [], _∷_, _++_, append-nil, flatMap}
 use Prim.Native.Nat.{ℕ, zero, suc, _+_, _≤_}
 use native.Mathlib.Omega.{arith}
 use native.Mathlib.Nat.{zero-add}
 use lib.IntN.{ℤ}
 use lib.ListN.{length, length-append}
+use Rattle.lists.proofs.Eaches.{flat-append}
 use Rattle.lists.specs.Each.{each, sum}
 use Rattle.lists.specs.Wrote.{Wrote}
 use Rattle.lists.proofs.Emitting.{Emitting, emit-first, emit-done}
 use Rattle.sections.specs.Sections.{Clause, clauseWords, clausesWords, sectionWords, literals}
 
-pub clauses-append : (cs ds : List Clause) → clausesWords (cs ++ ds) ≡ clausesWords cs ++ clausesWords ds
-unfolding clausesWords
-clauses-append [] ds = refl
-clauses-append (c ∷ cs) ds = rw (clauses-append cs ds, append-assoc)
-
 pub clauses-each : (n : ℕ) (f : ℕ → List Clause) → clausesWords (each n f) ≡ each n (λ k. clausesWords (f k))
 unfolding each
-clauses-each zero f = unfold clausesWords in refl
-clauses-each (suc n) f = rw (clauses-append (each n f) (f n), clauses-each n f)
+clauses-each zero f = unfold flatMap in refl
+clauses-each (suc n) f = rw (flat-append clauseWords (each n f) (f n), clauses-each n f)
 
 pub clauses-one : (c : Clause) → clausesWords (c ∷ []) ≡ clauseWords c
-unfolding clausesWords
+unfolding flatMap
 clauses-one c = append-nil (clauseWords c)
 
 -- ---- a loop whose turn k writes the clauses f k
@@ -51,7 +47,7 @@ literals-each zero f = unfold literals in refl
 literals-each (suc n) f = rw (literals-append (each n f) (f n), literals-each n f)
 
 pub clauses-length : (cs : List Clause) → length (clausesWords cs) ≡ length cs + literals cs
-unfolding clausesWords clauseWords literals
+unfolding flatMap clauseWords literals
 clauses-length [] = refl
 clauses-length (c ∷ cs) = omega (arith, length-append c (clausesWords cs), clauses-length cs)
 

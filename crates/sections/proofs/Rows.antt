@@ -1,6 +1,6 @@
 -- The loops that say some of n variables, no two of them, or one with none of them.
 use mathlib.Core.Path.{_≡_}
-use mathlib.Core.List.{List, [], _∷_}
+use mathlib.Core.List.{List, [], _∷_, flatMap}
 use Prim.Native.Nat.{ℕ, suc, _+_, _-_, _≤_, _<_}
 use native.Mathlib.Omega.{arith}
 use lib.IntN.{ℤ, pos}
@@ -16,7 +16,7 @@ use Rattle.sections.proofs.ClauseLists.{say-first, say-done}
 
 -- a clause of two literals takes three words
 pub two-room : (to n : ℕ) (a b : ℤ) → to + length (clausesWords ((a ∷ b ∷ []) ∷ [])) ≤ n → to + 3 ≤ n
-unfolding clausesWords clauseWords
+unfolding flatMap clauseWords
 two-room to n a b h = h
 
 -- ---- some of them

@@ -1,5 +1,5 @@
 -- Document 01: clauses and sections, and the words of a clause buffer.
-use mathlib.Core.List.{List, [], _∷_, _++_}
+use mathlib.Core.List.{List, [], _∷_, flatMap}
 use Prim.Native.Nat.{ℕ, _+_}
 use lib.IntN.{ℤ, pos}
 use lib.ListN.{length}
@@ -16,17 +16,15 @@ Clause = List ℤ
 unfoldable pub clauseWords : Clause → List ℤ
 clauseWords c = pos (length c) ∷ c
 
-unfoldable pub clausesWords : List Clause → List ℤ
-clausesWords [] = []
-clausesWords (c ∷ cs) = clauseWords c ++ clausesWords cs
+abbrev pub clausesWords : List Clause → List ℤ
+clausesWords cs = flatMap clauseWords cs
 
 -- a section's clause count, then its clauses
 unfoldable pub sectionWords : List Clause → List ℤ
 sectionWords cs = pos (length cs) ∷ clausesWords cs
 
-unfoldable pub sectionsWords : List (List Clause) → List ℤ
-sectionsWords [] = []
-sectionsWords (s ∷ ss) = sectionWords s ++ sectionsWords ss
+abbrev pub sectionsWords : List (List Clause) → List ℤ
+sectionsWords ss = flatMap sectionWords ss
 
 -- how many literals clauses have
 unfoldable pub literals : List Clause → ℕ

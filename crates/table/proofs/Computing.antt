@@ -1,6 +1,6 @@
 -- What computing finds: the rows of document 01's table, and what the right answers are where a fake gives another.
 use mathlib.Core.Path.{_≡_, refl}
-use mathlib.Core.List.{List, [], _∷_, _++_, flatten}
+use mathlib.Core.List.{List, [], _∷_, _++_, flatten, flatMap}
 use Rattle.literals.specs.Literals.{positive, negative}
 use Rattle.lists.specs.Each.{each, tab, pairs, product, sum}
 use Rattle.lists.specs.Wrote.{over}
@@ -8,7 +8,7 @@ use Rattle.refusals.specs.Verdict.{Verdict, number, place, firstOff}
 use Rattle.refusals.specs.Outcome.{Outcome, verdict, kept}
 use Rattle.refusals.proofs.Answering.{outcome-determined}
 use Rattle.refusals.specs.Walk.{walked, readOr, word, times, counted}
-use Rattle.sections.specs.Sections.{literals, atLeastOne, atMostOne, clauseWords, clausesWords, sectionWords, sectionsWords}
+use Rattle.sections.specs.Sections.{literals, atLeastOne, atMostOne, clauseWords, sectionWords}
 use Rattle.bits.specs.Bits.{bit, powers, withBit}
 use Rattle.lines.specs.Clue.{words, blocks, gap, packedFrom, packed, lastEnd, minSpace, positions, ofColor, range, conflict}
 use Rattle.lines.specs.Line.{run, runsFrom, runs}
@@ -62,7 +62,7 @@ unfolding
     blockChecks clueChecks startsWords rangesWords lineChecks lineWords
     clueAt lengthAt withColors withLines colorSet known solved offSolved
     walked readOr word times counted readBlock readPuzzle spaces meaningChecks
-    firstAt lineAt palette cellFirst variables atLeastOne atMostOne clauseWords clausesWords sectionWords sectionsWords
+    firstAt lineAt palette cellFirst variables atLeastOne atMostOne clauseWords flatMap sectionWords
     blockPositions blockOnce nonOverlap Placement.ruled ofLines covering Cells.ruled Cells.ofColor byColumn precomputed precomputedCells families flatten
     literalTrue clauseTrue allTrue tested literals colorOf shown blocking trues modelChecks countsOf
 computed = record {
