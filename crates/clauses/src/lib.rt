@@ -1,3 +1,3 @@
 // The whole clause buffer of a puzzle.
-pub mod buffer;
+mod buffer;
 pub mod call;

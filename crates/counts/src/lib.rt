@@ -1,6 +1,6 @@
 // How many clauses, literals and words the ten families of a puzzle have, from its lines and masks alone.
 pub mod call;
-pub mod line;
-pub mod measure;
+mod line;
+mod measure;
 pub mod total;
 mod units;

@@ -14,11 +14,11 @@ module _ {A : Type 0} where
   unfoldable pub tab : ℕ → (ℕ → A) → List A
   tab n f = each n (λ k. f k ∷ [])
 
-  -- of each pair of numbers below n, the first outer
+  -- of each i < j below n, i outer
   unfoldable pub pairs : ℕ → (ℕ → ℕ → List A) → List A
   pairs n f = each n (λ i. each (n - suc i) (λ j. f i (suc i + j)))
 
-  -- of each two numbers below n, the first outer
+  -- of each i and j below n, i outer
   unfoldable pub product : ℕ → (ℕ → ℕ → List A) → List A
   product n f = each n (λ i. each n (λ j. f i j))
 
@@ -26,7 +26,7 @@ module _ {A : Type 0} where
   abbrev pub when : Bool → List A → List A
   when b l = cond b l []
 
-  -- of each element
+  -- P holds of each element
   abbrev pub Every : A → (A → Type 0) → List A → Type 0
   Every d P l = (k : ℕ) → k < length l → P (getD l k d)
 
@@ -35,6 +35,6 @@ unfoldable pub sum : ℕ → (ℕ → ℕ) → ℕ
 sum zero f = 0
 sum (suc n) f = sum n f + f n
 
--- of each pair of numbers below n
+-- of each i < j below n
 unfoldable pub sumPairs : ℕ → (ℕ → ℕ → ℕ) → ℕ
 sumPairs n f = sum n (λ i. sum (n - suc i) (λ j. f i (suc i + j)))

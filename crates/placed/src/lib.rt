@@ -1,4 +1,4 @@
 // Whether a model places the blocks: families 1 to 6 tested, with no clause written.
-pub mod line;
-pub mod overlap;
+mod line;
+mod overlap;
 pub mod section;

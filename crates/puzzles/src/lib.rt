@@ -1,3 +1,3 @@
 // Puzzle words: what they hold, and the walk over their sections.
 pub mod check;
-pub mod section;
+mod section;

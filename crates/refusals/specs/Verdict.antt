@@ -4,7 +4,7 @@ use mathlib.Core.List.{List, [], _∷_}
 use Prim.Native.Nat.{ℕ, _+_}
 
 pub data Verdict : Type 0 where
-  -- the place is how many words or bytes were written
+  -- how many words or bytes were written; of checks that pass, a number that no promise speaks of
   accepted : ℕ → Verdict
   -- number and place
   refused : ℕ → ℕ → Verdict
