@@ -13,7 +13,8 @@ use Rattle.lines.proofs.Checks.{size-within}
 use Rattle.lines.proofs.ClueWords.{starts-positions, starts-start}
 use Rattle.puzzles.specs.Puzzle.{Puzzle, lines, clueAt, lengthAt}
 use Rattle.puzzles.specs.Checks.{puzzle, Sectioned}
-use Rattle.boards.specs.Table.{beginAt, firstAt, positionsAt, laidWords, LineLaid, Laid}
+use Rattle.puzzles.specs.Firsts.{firstAt, positionsAt}
+use Rattle.boards.specs.Table.{beginAt, laidWords, LineLaid, Laid}
 use Rattle.boards.proofs.Beginning.{Here}
 use Rattle.boards.proofs.Laying.{line-size, line-fine, line-here, lines-most, variables-most, first-most}
 

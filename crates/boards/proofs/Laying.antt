@@ -26,7 +26,8 @@ use Rattle.lines.proofs.Checks.{proper-clue, size-within}
 use Rattle.lines.proofs.ClueWords.{starts-size, starts-positions, positions-bound}
 use Rattle.puzzles.specs.Puzzle.{Puzzle, width, height, lines, clueAt, lengthAt, cellsAt}
 use Rattle.puzzles.specs.Checks.{puzzle, Sectioned, spaces}
-use Rattle.boards.specs.Table.{beginAt, firstAt, positionsAt, laidWords, LineLaid, Laid, Standing}
+use Rattle.puzzles.specs.Firsts.{firstAt, positionsAt}
+use Rattle.boards.specs.Table.{beginAt, laidWords, LineLaid, Laid, Standing}
 use Rattle.puzzles.proofs.Accepting.{walked-sections, FineLine, fine-lines}
 use Rattle.boards.proofs.Beginning.{Here, clue-here, begin-next, begin-cells}
 use Rattle.puzzles.proofs.Lines.{spaces-fit, spaces-short}

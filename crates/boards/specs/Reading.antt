@@ -9,7 +9,8 @@ use Rattle.boards.specs.declared.board.Reading.{Reading}
 use Rattle.boards.specs.declared.board.Reading.the-variants.{Read, Refused}
 use Rattle.puzzles.specs.Puzzle.{Puzzle, width, height, lines, rowsAt, cellsAt}
 use Rattle.puzzles.specs.Checks.{colors, puzzleChecks, puzzle}
-use Rattle.boards.specs.Table.{firstAt, Laid}
+use Rattle.puzzles.specs.Firsts.{firstAt}
+use Rattle.boards.specs.Table.{Laid}
 
 -- the board's numbers are the puzzle's
 pub record Stands (b : Board) (z : Puzzle) : Type 0 where

@@ -3,25 +3,17 @@
 use mathlib.Core.Path.{_≡_}
 use mathlib.Core.Bool.{cond}
 use mathlib.Core.List.{List, _∷_, _++_}
-use Prim.Native.Nat.{ℕ, zero, suc, _+_, _*_, _≤_, _<_}
+use Prim.Native.Nat.{ℕ, _+_, _*_, _≤_, _<_}
 use lib.Dec.{ltb}
 use lib.ListN.{length, take, drop}
-use Rattle.lines.specs.Clue.{gap, words, positions}
+use Rattle.lines.specs.Clue.{words}
 use Rattle.lines.specs.Calls.{startsWords}
+use Rattle.puzzles.specs.Firsts.{firstAt}
 use Rattle.puzzles.specs.Puzzle.{Puzzle, width, lines, cluesWords, clueAt, lengthAt}
 
 -- the word of the line's block count: the counts of the sections and the clues before it come first
 unfoldable pub beginAt : Puzzle → ℕ → ℕ
 beginAt z l = cond (ltb l (width z)) 1 2 + length (cluesWords (take l (z .columns ++ z .rows)))
-
--- the positions of each of its blocks
-abbrev pub positionsAt : Puzzle → ℕ → ℕ
-positionsAt z l = positions gap (lengthAt z l) (clueAt z l)
-
--- a variable for each position of each block of the lines before it, counted from 1
-unfoldable pub firstAt : Puzzle → ℕ → ℕ
-firstAt z zero = 1
-firstAt z (suc l) = firstAt z l + length (clueAt z l) * positionsAt z l
 
 unfoldable pub laidWords : Puzzle → ℕ → List ℕ
 laidWords z l = beginAt z l ∷ firstAt z l ∷ startsWords (lengthAt z l) (words (clueAt z l))

@@ -15,7 +15,8 @@ ghost use Rattle.refusals.specs.Verdict.{accepted, refuse};
 ghost use Rattle.lines.specs.Clue.{gap, minSpace};
 ghost use Rattle.puzzles.specs.Puzzle as P;
 ghost use Rattle.puzzles.specs.Checks.{puzzle, Sectioned, spaces};
-ghost use Rattle.boards.specs.Table.{firstAt, positionsAt, laidWords, Laid, Standing};
+ghost use Rattle.puzzles.specs.Firsts.{firstAt, positionsAt};
+ghost use Rattle.boards.specs.Table.{laidWords, Laid, Standing};
 
 // The cells of line l.
 fn line_length(l: usize, width: usize, height: usize) -> usize

@@ -18,7 +18,7 @@ use Rattle.lines.specs.Clue.{gap}
 use Rattle.lines.specs.Arrangement.{at, clash, distance}
 use Rattle.lines.proofs.Packing.{packed-length}
 use Rattle.puzzles.specs.Puzzle.{Puzzle, lines, clueAt}
-use Rattle.boards.specs.Table.{firstAt, positionsAt}
+use Rattle.puzzles.specs.Firsts.{firstAt, positionsAt}
 use Rattle.puzzles.specs.Good.{Good}
 use Rattle.numbering.specs.Variables.{Line, lineAt, many, placedAt, firstOf, variable}
 use Rattle.numbering.specs.Tables.{Sound}

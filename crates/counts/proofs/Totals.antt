@@ -14,7 +14,7 @@ use Rattle.sections.proofs.ClauseLists.{literals-append, section-length}
 use Rattle.puzzles.specs.Puzzle.{Puzzle, width, height, lines}
 use Rattle.puzzles.specs.Good.{Good}
 use Rattle.puzzles.proofs.ColorSets.{good-known}
-use Rattle.boards.specs.Table.{firstAt}
+use Rattle.puzzles.specs.Firsts.{firstAt}
 use Rattle.boards.specs.Reading.{Stands}
 use Rattle.boards.specs.declared.board.Board.{Board}
 use Rattle.numbering.specs.Variables.{hues, variables}

@@ -13,7 +13,7 @@ use Rattle.lines.proofs.Moving.{positions-space}
 use Rattle.puzzles.specs.Puzzle.{Puzzle, width, height, lines, clueAt, lengthAt}
 use Rattle.puzzles.specs.Checks.{colors}
 use Rattle.puzzles.specs.Good.{Good}
-use Rattle.boards.specs.Table.{firstAt, positionsAt}
+use Rattle.puzzles.specs.Firsts.{firstAt, positionsAt}
 use Rattle.numbering.specs.Variables.{lineAt, hues, cellFirst, variables}
 use Rattle.numbering.specs.Tables.{Sound}
 use Rattle.numbering.proofs.Palettes.{palette-most}

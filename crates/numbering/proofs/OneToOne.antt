@@ -7,7 +7,7 @@ use native.Mathlib.Decide.{ℕ-discrete, decLt}
 use lib.ListN.{length}
 use Rattle.lists.proofs.Parts.{part-within, place-within}
 use Rattle.puzzles.specs.Puzzle.{Puzzle, width, height, lines, clueAt}
-use Rattle.boards.specs.Table.{firstAt, positionsAt}
+use Rattle.puzzles.specs.Firsts.{firstAt, positionsAt}
 use Rattle.numbering.specs.Variables.{lineAt, hues, cellFirst, variables}
 use Rattle.numbering.proofs.Bounds.{first-some}
 use Rattle.numbering.specs.Names.{Name, position, cell, IsName, number}

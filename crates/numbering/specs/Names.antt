@@ -2,7 +2,7 @@
 use Prim.Native.Nat.{ℕ, _<_}
 use lib.ListN.{length}
 use Rattle.puzzles.specs.Puzzle.{Puzzle, width, height, lines, clueAt}
-use Rattle.boards.specs.Table.{positionsAt}
+use Rattle.puzzles.specs.Firsts.{positionsAt}
 use Rattle.numbering.specs.Variables.{lineAt, variable, hues, cellVariable}
 
 pub data Name : Type 0 where

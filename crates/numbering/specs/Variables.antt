@@ -8,7 +8,7 @@ use Rattle.lines.specs.Clue.{Run, gap, packed}
 use Rattle.lines.specs.Arrangement.{at, moved}
 use Rattle.puzzles.specs.Puzzle.{Puzzle, width, height, lines, clueAt}
 use Rattle.puzzles.specs.Checks.{colors}
-use Rattle.boards.specs.Table.{firstAt, positionsAt}
+use Rattle.puzzles.specs.Firsts.{firstAt, positionsAt}
 
 -- ---- the lines
 

@@ -18,7 +18,7 @@ use Rattle.lines.proofs.Arranging.{read-back, arranged, arranged-once}
 use Rattle.puzzles.specs.Puzzle.{Puzzle, lines, clueAt, lengthAt}
 use Rattle.puzzles.specs.Good.{Good}
 use Rattle.puzzles.proofs.ColorSets.{good-known}
-use Rattle.boards.specs.Table.{firstAt}
+use Rattle.puzzles.specs.Firsts.{firstAt}
 use Rattle.numbering.specs.Variables.{lineAt, many, variable, hues, hue}
 use Rattle.truth.specs.Truth.{Assignment}
 use Rattle.pictures.specs.Meaning.{SomePosition, OnePosition, NoConflict, IsCovered, IsColored}

@@ -5,7 +5,7 @@ use lib.ListN.{length}
 use Rattle.lines.specs.Clue.{gap}
 use Rattle.lines.proofs.Packing.{packed-length}
 use Rattle.puzzles.specs.Puzzle.{Puzzle, lines, clueAt}
-use Rattle.boards.specs.Table.{positionsAt}
+use Rattle.puzzles.specs.Firsts.{positionsAt}
 use Rattle.numbering.specs.Variables.{lineAt, variables}
 use Rattle.numbering.specs.Tables.{Sound}
 use Rattle.numbering.specs.Names.{position}

@@ -15,7 +15,7 @@ use Rattle.sections.specs.Sections.{clausesWords, atMostOne}
 use Rattle.sections.proofs.ClauseLists.{say-first, say-done}
 use Rattle.puzzles.specs.Puzzle.{Puzzle, width, height, lines}
 use Rattle.puzzles.specs.Checks.{puzzle}
-use Rattle.boards.specs.Table.{firstAt}
+use Rattle.puzzles.specs.Firsts.{firstAt}
 use Rattle.boards.proofs.Boards.{masks-within, masks-part}
 use Rattle.boards.specs.declared.board.Board.{Board}
 use Rattle.numbering.specs.Variables.{hues, hue, cellFirst, variables}

@@ -3,3 +3,4 @@ pub mod Colors
 pub mod Walk
 pub mod Checks
 pub mod Good
+pub mod Firsts

@@ -17,7 +17,7 @@ use Rattle.puzzles.specs.Puzzle.{clueAt, lengthAt}
 use Rattle.puzzles.specs.Colors.{withColors, withLines, colorSet, known, solved, offSolved}
 use Rattle.puzzles.specs.Walk.{readBlock, readPuzzle}
 use Rattle.puzzles.specs.Checks.{spaces, meaningChecks, puzzle}
-use Rattle.boards.specs.Table.{firstAt}
+use Rattle.puzzles.specs.Firsts.{firstAt}
 use Rattle.numbering.specs.Variables.{lineAt, palette, cellFirst, variables}
 use Rattle.placement.specs.Placement as Placement
 use Rattle.placement.specs.Placement.{blockPositions, blockOnce, nonOverlap, ofLines}

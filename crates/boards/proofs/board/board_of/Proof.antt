@@ -1,6 +1,6 @@
 use Prim.Native.Nat.{_≤_, _+_, _-_}
 use mathlib.Core.Path.{ap, _≡_, _∙_}
-use Rattle.boards.specs.Table.{firstAt}
+use Rattle.puzzles.specs.Firsts.{firstAt}
 use Rattle.boards.proofs.Boards.{accepted-sectioned, width-word, height-word, width-some, height-some, rows-within, rows-laid, cells-laid}
 use Rattle.boards.proofs.Finding.{found-within}
 use Rattle.puzzles.proofs.Accepting.{sizes, accepted-is}

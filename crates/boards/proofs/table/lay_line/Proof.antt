@@ -1,5 +1,5 @@
 use Rattle.boards.proofs.Laying.{line-fine, lay-kept, lay-fits, lay-wrote, lay-positions, variables-most, Room, room, lay-refused}
-use Rattle.boards.specs.Table.{positionsAt}
+use Rattle.puzzles.specs.Firsts.{positionsAt}
 use Rattle.lines.proofs.Checks.{size-within}
 use Rattle.refusals.specs.Verdict.{accepted}
 use mathlib.Core.Path.{ap, _≡_, ap₂, _∙_}
