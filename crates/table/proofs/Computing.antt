@@ -25,14 +25,13 @@ use Rattle.cells.specs.Cells as Cells
 use Rattle.cells.specs.Cells.{covering, byColumn, precomputed, precomputedCells}
 use Rattle.counts.specs.Families.{families, countsOf}
 use Rattle.truth.specs.Truth.{literalTrue, clauseTrue, allTrue, value, Satisfies}
-use Rattle.truth.specs.Tested.{tested}
 use Rattle.pictures.specs.Pictures.{colorOf, shown, blocking}
 use Rattle.pictures.specs.Meaning.{section}
 use Rattle.pictures.specs.Examples.{p8, p10, p11, p12, level}
 use Rattle.models.specs.Models.{trues, modelChecks}
 use Rattle.haafgrim.specs.Entries.{Clauses, Counts, CheckModel}
 use Rattle.table.specs.Table.{filled, AllHold, table}
-use Rattle.table.specs.Fakes.{sevens, p11-level, apart, SlipsRuledOut}
+use Rattle.table.specs.Fakes.{sevens, p11-level, apart, crossed, SlipsRuledOut}
 
 -- what the contract's own functions give is an outcome
 computes : {A : Type 0} {checks : Verdict} {ws out : List A} → Outcome checks ws out (number (verdict checks ws out)) (place (verdict checks ws out)) (kept (verdict checks ws out) ws out)
@@ -57,17 +56,17 @@ pub record Computed : Type 0 where
 
 pub computed : Computed
 unfolding
-    AllHold table apart over p8 p10 p11 p12 each tab pairs product sum firstOff bit powers withBit
+    AllHold table apart crossed over p8 p10 p11 p12 each tab pairs product sum firstOff bit powers withBit
     words blocks gap packedFrom packed lastEnd minSpace positions ofColor range conflict run runsFrom runs
     blockChecks clueChecks startsWords rangesWords lineChecks lineWords
     clueAt lengthAt withColors withLines colorSet known solved offSolved
     walked readOr word times counted readBlock readPuzzle spaces meaningChecks
     firstAt lineAt palette cellFirst variables atLeastOne atMostOne clauseWords flatMap sectionWords
     blockPositions blockOnce nonOverlap Placement.ruled ofLines covering Cells.ruled Cells.ofColor byColumn precomputed precomputedCells families flatten
-    literalTrue clauseTrue allTrue tested literals colorOf shown blocking trues modelChecks countsOf
+    literalTrue clauseTrue allTrue literals colorOf shown blocking trues modelChecks countsOf
 computed = record {
   rows = (computes, (computes, (computes, (computes, (computes, (refl, (refl, (computes, (computes, ((refl, refl, refl, refl), (computes, (computes, tt))))))))))));
-  slips = record { by-column = refl; one-conflict = refl; true-cells = λ n p out a. outcome-determined _ _ a computes .2 };
+  slips = record { seven = refl; eight = refl; nine = refl; one-conflict = refl; true-cells = λ n p out a. outcome-determined _ _ a computes .2 };
   of-p8 = computes;
   of-p10 = computes;
   counts-of-p10 = computes;

@@ -26,6 +26,7 @@ fakes-shut-out = record {
       let e : _≡_ {A = ℕ} 1 2 = ap (at 4) (sym (outcome-determined _ _ a (computed .of-p8) .2) ∙ outcome-determined _ _ b (computed .of-p10) .2) in
       absurd (omega arith);
   untouched = λ n p a. let e : _≡_ {A = ℕ} 7 1 = ap (at 0) (outcome-determined _ _ a (computed .of-p8) .2) in absurd (omega arith);
+  untouched-too = λ n p a. let e : _≡_ {A = ℕ} 7 1 = ap (at 0) (outcome-determined _ _ a (computed .of-p10) .2) in absurd (omega arith);
   only-one = λ n p a. let e : _≡_ {A = ℕ} 7 1 = ap (at 3) (outcome-determined _ _ a (computed .of-p8) .2) in absurd (omega arith);
   false-picture = (computed .first-section .0, computed .first-section .1, Small.computed .level-off);
   accepting = λ n p out a. let d = outcome-determined _ _ a (computed .no-model) in (d .0, d .1);

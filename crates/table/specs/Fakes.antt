@@ -22,12 +22,21 @@ sevens n = filled n (positive 7)
 unfoldable pub apart : List ℕ
 apart = 3 ∷ 1 ∷ 1 ∷ 1 ∷ 1 ∷ 1 ∷ 2 ∷ 0 ∷ 1 ∷ 2 ∷ 1 ∷ 1 ∷ 1 ∷ 2 ∷ 3 ∷ 7 ∷ 7 ∷ 7 ∷ []
 
+-- 2 by 2, columns (1,1) and (1,2), rows (1,1) and (1,2), masks of bits 0 to 2
+unfoldable pub crossed : List ℕ
+crossed = 2 ∷ 1 ∷ 1 ∷ 1 ∷ 1 ∷ 1 ∷ 2 ∷ 2 ∷ 1 ∷ 1 ∷ 1 ∷ 1 ∷ 1 ∷ 2 ∷ 4 ∷ 7 ∷ 7 ∷ 7 ∷ 7 ∷ []
+
 pub record SlipsRuledOut : Type 0 where
-  -- cells are taken column by column: variables 9, 11, 10, 12
-  pub by-column : section (puzzle p11) 7
+  -- sections 7 to 9 take cells column by column: of P11, variables 9, 11, 10, 12
+  pub seven : section (puzzle p11) 7
       ≡ (positive 1 ∷ negative 9 ∷ []) ∷ (positive 5 ∷ negative 9 ∷ []) ∷ (positive 2 ∷ negative 11 ∷ []) ∷ (positive 7 ∷ negative 11 ∷ [])
       ∷ (positive 3 ∷ negative 10 ∷ []) ∷ (positive 6 ∷ negative 10 ∷ []) ∷ (positive 4 ∷ negative 12 ∷ []) ∷ (positive 8 ∷ negative 12 ∷ []) ∷ []
-  -- different colours may touch: one conflict, where one test for all colours would find three
+  pub eight : section (puzzle p11) 8
+      ≡ (negative 1 ∷ positive 9 ∷ []) ∷ (negative 5 ∷ positive 9 ∷ []) ∷ (negative 2 ∷ positive 11 ∷ []) ∷ (negative 7 ∷ positive 11 ∷ [])
+      ∷ (negative 3 ∷ positive 10 ∷ []) ∷ (negative 6 ∷ positive 10 ∷ []) ∷ (negative 4 ∷ positive 12 ∷ []) ∷ (negative 8 ∷ positive 12 ∷ []) ∷ []
+  pub nine : section (puzzle crossed) 9
+      ≡ (negative 9 ∷ negative 10 ∷ []) ∷ (negative 13 ∷ negative 14 ∷ []) ∷ (negative 11 ∷ negative 12 ∷ []) ∷ (negative 15 ∷ negative 16 ∷ []) ∷ []
+  -- different colours may touch: one conflict, where the test of one colour would find three; that one colour may not is row P6 of the table
   pub one-conflict : section (puzzle apart) 6 ≡ (negative 4 ∷ negative 5 ∷ []) ∷ []
   -- a blocking clause names true cells, and no other cell or block
   pub true-cells : (n p : ℕ) (out : List ℤ) → Blocking p11 p11-model (sevens 3) n p out → out ≡ positive 2 ∷ negative 9 ∷ negative 12 ∷ []
@@ -45,6 +54,7 @@ pub record FakesShutOut : Type 0 where
   pub fixed : (n p m q : ℕ) (out : List ℤ) → Clauses p8 (sevens 38) n p out → Clauses p10 (sevens 38) m q out → ⊥
   -- untouched output
   pub untouched : (n p : ℕ) → Clauses p8 (sevens 38) n p (sevens 38) → ⊥
+  pub untouched-too : (n p : ℕ) → Clauses p10 (sevens 38) n p (sevens 38) → ⊥
   -- only section 1
   pub only-one : (n p : ℕ) → Clauses p8 (sevens 38) n p ((positive 1 ∷ positive 1 ∷ positive 1 ∷ []) ++ sevens 35) → ⊥
   -- which admits a false picture
