@@ -15,7 +15,7 @@ use Rattle.refusals.specs.declared.Answer.{Answer}
 use Rattle.refusals.specs.declared.Answer.the-variants.{Accepted, Refused}
 use Rattle.refusals.proofs.Answering.{refused-told, handed-up, refuse-accepted}
 use Rattle.puzzles.specs.Checks.{puzzle}
-use Rattle.encoding.specs.Encode.{wordsOf, inputChecks, textOf, wordsChecks, bytesChecks, programChecks, refusedText, told, encoded}
+use Rattle.encoding.specs.Encode.{wordsOf, inputChecks, textOf, wordsChecks, bytesChecks, programChecks, refusedText, printed, encoded}
 use Rattle.refusals.proofs.Called.{refused-kept, accepted-room, accepted-wrote}
 
 -- ---- the bytes
@@ -50,7 +50,7 @@ module _ (bytes : List ℕ) where
 
     module _ {used : ℕ} (r : a ≡ Accepted used) where
       pub text-told : Wrote (encoded bytes) out 0 out′ used
-      unfolding told
+      unfolding printed
       text-told = rw (← program-is, r) (accepted-wrote given r)
 
       pub text-within : used ≤ 65536
@@ -58,7 +58,7 @@ module _ (bytes : List ℕ) where
 
     module _ {why : Refusal} (r : a ≡ Refused why) {k p : ℕ} (k-is : k ≡ number (R.told a)) (p-is : p ≡ place (R.told a)) where
       pub refusal-told : {out″ : List ℕ} {n : ℕ} → Wrote (refusedText k p) out′ 0 out″ n → Wrote (encoded bytes) out 0 out″ n
-      unfolding told
+      unfolding printed
       refusal-told w =
           let s = refused-told r in
           let f : encoded bytes ≡ refusedText k p = rw (← program-is, k-is, p-is, s) in

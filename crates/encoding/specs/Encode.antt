@@ -48,10 +48,10 @@ atWord = space ∷ 97 ∷ 116 ∷ space ∷ []
 unfoldable pub refusedText : ℕ → ℕ → List ℕ
 refusedText k p = refusedWord ++ (digits k ++ (atWord ++ (digits p ++ (newline ∷ []))))
 
-unfoldable pub told : Verdict → List ℕ → List ℕ
-told (accepted n) t = t
-told (refused k p) t = refusedText k p
+unfoldable pub printed : Verdict → List ℕ → List ℕ
+printed (accepted n) t = t
+printed (refused k p) t = refusedText k p
 
 -- what the program writes, of what it reads
 abbrev pub encoded : List ℕ → List ℕ
-encoded bytes = told (programChecks bytes) (textOf (puzzle (wordsOf bytes)))
+encoded bytes = printed (programChecks bytes) (textOf (puzzle (wordsOf bytes)))

@@ -4,7 +4,7 @@ use mathlib.Core.List.{List, [], _∷_}
 use Prim.Native.Nat.{ℕ, _+_}
 
 pub data Verdict : Type 0 where
-  -- how many words or bytes were written; of checks that pass, a number that no promise speaks of
+  -- how many words or bytes were written; of checks that pass, a number that no entry's promise uses, of a puzzle its K
   accepted : ℕ → Verdict
   -- number and place
   refused : ℕ → ℕ → Verdict
