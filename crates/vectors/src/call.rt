@@ -1,15 +1,15 @@
 // A call of an entry, with the length of the buffer that it is lent and its other numbers.
 use crate::dimacs;
 use crate::encode;
-use crate::entry::Entry;
 use crate::model;
-use crate::number::at_most;
-use crate::number::index;
 use crate::puzzle;
-use crate::show::show;
-use crate::show::show_bytes;
-use crate::show::show_literals;
-use crate::show::show_numbers;
+use cases::entry::Entry;
+use cases::number::at_most;
+use cases::number::index;
+use cases::show::show;
+use cases::show::show_bytes;
+use cases::show::show_literals;
+use cases::show::show_numbers;
 use haafgrim::haafgrim_clauses;
 use haafgrim::haafgrim_color_ranges;
 use haafgrim::haafgrim_counts;

@@ -1,7 +1,7 @@
 // The call `dimacs`: its variables, its sections, then clause words, each the 32 bits of a number.
-use crate::number::at_most;
-use crate::number::index;
-use crate::show::show_bytes;
+use cases::number::at_most;
+use cases::number::index;
+use cases::show::show_bytes;
 use haafgrim::haafgrim_dimacs;
 ghost use Prim.Native.Nat.{_≤_};
 ghost use lib.ListN.{length};

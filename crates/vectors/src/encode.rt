@@ -1,7 +1,7 @@
 // The base program as a function: the bytes of words, then some zero bytes more. A checksum stands for all bytes that it writes.
-use crate::number::at_most;
-use crate::number::index;
-use crate::show::show_bytes;
+use cases::number::at_most;
+use cases::number::index;
+use cases::show::show_bytes;
 use encoding::program::encode;
 ghost use mathlib.Core.Path.{_≡_};
 ghost use Prim.Native.Nat.{_+_, _≤_};

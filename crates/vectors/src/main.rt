@@ -3,18 +3,14 @@
 mod call;
 mod dimacs;
 mod encode;
-mod entry;
 mod model;
-mod number;
 mod puzzle;
-mod show;
-mod text;
 
-use entry::named;
+use cases::entry::named;
+use cases::text::find;
+use cases::text::numbers;
 use libc::STDIN_FILENO;
 use libc::STDOUT_FILENO;
-use text::find;
-use text::numbers;
 ghost use mathlib.Core.Path.{_≡_};
 ghost use Prim.Native.Nat.{_≤_};
 ghost use lib.ListN.{length};

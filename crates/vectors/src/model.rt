@@ -1,10 +1,10 @@
 // The calls that take a puzzle and more: the number of the puzzle's words comes first, then these, then the rest.
 use crate::call::as_bytes;
-use crate::entry::Entry;
-use crate::number::at_most;
-use crate::number::index;
-use crate::show::show_bytes;
-use crate::show::show_literals;
+use cases::entry::Entry;
+use cases::number::at_most;
+use cases::number::index;
+use cases::show::show_bytes;
+use cases::show::show_literals;
 use haafgrim::haafgrim_blocking;
 use haafgrim::haafgrim_check_model;
 use haafgrim::haafgrim_probes;

@@ -1,10 +1,10 @@
 // What is read of a puzzle's words: its board, and what the table has of each line.
-use crate::number::at_most;
-use crate::number::index;
-use crate::number::low;
-use crate::show::show;
 use boards::board::Board;
 use boards::board::Reading;
+use cases::number::at_most;
+use cases::number::index;
+use cases::number::low;
+use cases::show::show;
 ghost use Prim.Native.Nat.{_≤_};
 ghost use lib.ListN.{length};
 

@@ -1,7 +1,7 @@
 use Prim.Native.Nat.{_-_, _≤_, _<_}
 use borrow.Author.Needs.{needs}
-use Rattle.vectors.proofs.show.run_end.Statement.{statement}
-use Rattle.vectors.proofs.show.run_end.Tie as tie
+use Rattle.cases.proofs.show.run_end.Statement.{statement}
+use Rattle.cases.proofs.show.run_end.Tie as tie
 
 abbrev Inv-loop : tie.InvT-loop
 Inv-loop numbers from n i₀ i = (from < i) × (i ≤ n)

@@ -2,8 +2,8 @@ use mathlib.Core.Path.{_≡_}
 use Prim.Native.Nat.{_-_, _≤_}
 use lib.ListN.{length}
 use borrow.Author.Needs.{needs}
-use Rattle.vectors.proofs.text.number.Statement.{statement}
-use Rattle.vectors.proofs.text.number.Tie as tie
+use Rattle.cases.proofs.text.number.Statement.{statement}
+use Rattle.cases.proofs.text.number.Tie as tie
 
 abbrev Inv-loop : tie.InvT-loop
 Inv-loop word n₀ i₀ i-end n i = (i-end ≡ length word) × (i ≤ i-end)

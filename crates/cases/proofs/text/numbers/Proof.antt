@@ -2,8 +2,8 @@ use mathlib.Core.Path.{_≡_}
 use Prim.Native.Nat.{_-_, _≤_}
 use lib.ListN.{length}
 use borrow.Author.Needs.{needs}
-use Rattle.vectors.proofs.text.numbers.Statement.{statement}
-use Rattle.vectors.proofs.text.numbers.Tie as tie
+use Rattle.cases.proofs.text.numbers.Statement.{statement}
+use Rattle.cases.proofs.text.numbers.Tie as tie
 
 abbrev Inv-loop : tie.InvT-loop
 Inv-loop line out₀ count₀ from₀ out count from = (count ≤ length out) × (length out ≡ length out₀)

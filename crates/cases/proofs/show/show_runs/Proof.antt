@@ -1,7 +1,7 @@
 use Prim.Native.Nat.{_-_, _≤_}
 use borrow.Author.Needs.{needs}
-use Rattle.vectors.proofs.show.show_runs.Statement.{statement}
-use Rattle.vectors.proofs.show.show_runs.Tie as tie
+use Rattle.cases.proofs.show.show_runs.Statement.{statement}
+use Rattle.cases.proofs.show.show_runs.Tie as tie
 
 abbrev Inv-loop : tie.InvT-loop
 Inv-loop numbers n from₀ from = from ≤ n

@@ -2,17 +2,17 @@ use mathlib.Core.Path.{_≡_}
 use Prim.Native.Nat.{_-_, _≤_}
 use lib.ListN.{length, length-set}
 use borrow.Author.Needs.{needs}
-use Rattle.vectors.proofs.show.of_words.Statement.{statement}
-use Rattle.vectors.proofs.show.of_words.Tie as tie
+use Rattle.cases.proofs.text.repeat.Statement.{statement}
+use Rattle.cases.proofs.text.repeat.Tie as tie
 
 abbrev Inv-loop : tie.InvT-loop
-Inv-loop words out₀ i₀ i-end out i = (i-end ≡ length words) × ((i ≤ i-end) × ((i ≤ length out) × (length out ≡ length out₀)))
+Inv-loop out₀ at n times next₀ counter₀ out next counter = (next ≤ length out) × (length out ≡ length out₀)
 
 abbrev μ-loop : tie.MeasureT-loop
-μ-loop words out₀ i₀ i-end out i = i-end - i
+μ-loop out₀ at n times next₀ counter₀ out next counter = times - counter
 
-pub of-words-spec : {M : Type 1} → statement M
-of-words-spec =
+pub repeat-spec : {M : Type 1} → statement M
+repeat-spec =
     tie.close
     (tie.spec
     Inv-loop
@@ -21,8 +21,6 @@ of-words-spec =
     (λ c. search needs)
     (λ c. search needs)
     (λ c. search needs)
-    (λ c. search needs)
-    (λ c κs. search needs)
     (λ c. search needs)
     (λ c. search needs)
     (λ c. search needs)

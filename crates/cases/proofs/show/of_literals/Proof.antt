@@ -2,8 +2,8 @@ use mathlib.Core.Path.{_≡_}
 use Prim.Native.Nat.{_-_, _≤_}
 use lib.ListN.{length, length-set}
 use borrow.Author.Needs.{needs}
-use Rattle.vectors.proofs.show.of_literals.Statement.{statement}
-use Rattle.vectors.proofs.show.of_literals.Tie as tie
+use Rattle.cases.proofs.show.of_literals.Statement.{statement}
+use Rattle.cases.proofs.show.of_literals.Tie as tie
 
 abbrev Inv-loop : tie.InvT-loop
 Inv-loop words out₀ i₀ i-end out i = (i-end ≡ length words) × ((i ≤ i-end) × ((i ≤ length out) × (length out ≡ length out₀)))

@@ -10,8 +10,8 @@ use mir.Val.{toZ, ofZ}
 use Rattle.literals.specs.Literals.{isNegative}
 use Rattle.literals.proofs.Words.{word-is, wide-fits, wide-is, wide-minus-fits, wide-minus-is}
 use Rattle.literals.proofs.Signs.{is-positive, is-negative, below-zero}
-use Rattle.vectors.proofs.number.signed.Statement.{statement}
-use Rattle.vectors.proofs.number.signed.Tie as tie
+use Rattle.cases.proofs.number.signed.Statement.{statement}
+use Rattle.cases.proofs.number.signed.Tie as tie
 
 sign : (z : ℤ) (b : Bool) → mag z < 2147483648 → ltZ (toZ w32 (ofZ w32 z)) (pos 0) ≡ b → isNegative z ≡ b
 sign z b m e = sym (ap (λ x. ltZ x (pos 0)) (word-is z m) ∙ below-zero z) ∙ e

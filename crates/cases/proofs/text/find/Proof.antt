@@ -1,8 +1,8 @@
 use Prim.Native.Nat.{_-_, _≤_}
 use lib.ListN.{length}
 use borrow.Author.Needs.{needs}
-use Rattle.vectors.proofs.text.find.Statement.{statement}
-use Rattle.vectors.proofs.text.find.Tie as tie
+use Rattle.cases.proofs.text.find.Statement.{statement}
+use Rattle.cases.proofs.text.find.Tie as tie
 
 abbrev Inv-loop : tie.InvT-loop
 Inv-loop text from byte i₀ i = (from ≤ i) × (i ≤ length text)
