@@ -16,7 +16,7 @@ use Rattle.puzzles.specs.Checks.{puzzle, Sectioned}
 use Rattle.puzzles.specs.Firsts.{firstAt, positionsAt}
 use Rattle.boards.specs.Table.{beginAt, laidWords, LineLaid, Laid}
 use Rattle.boards.proofs.Beginning.{Here}
-use Rattle.boards.proofs.Laying.{line-size, line-fine, line-here, lines-most, variables-most, first-most}
+use Rattle.boards.proofs.Laying.{line-size, line-fine, line-here, lines-most, line-vars, first-most}
 
 module _ (z : Puzzle) (table : List ℕ) (l : ℕ) (L : LineLaid z table l) where
   laid-word : (i : ℕ) → i < length (laidWords z l) → getD table (68 * l + i) 0 ≡ getD (laidWords z l) i 0
@@ -68,4 +68,4 @@ module _ (ws : List ℕ) (S : Sectioned ws) (table : List ℕ) (L : Laid (puzzle
   found-few b f q =
       let z = puzzle ws in
       let F = line-fine ws S l h in
-      (rw (b ∙ found .count-is, q ∙ laid-positions z table l (L l h)) (variables-most z l (F .few) (size-within (lengthAt z l) (F .sized))), omega (arith, f, laid-first z table l (L l h), first-most ws S l (omega arith), lines-most ws S l h))
+      (rw (b ∙ found .count-is, q ∙ laid-positions z table l (L l h)) (line-vars z l (F .few) (size-within (lengthAt z l) (F .sized))), omega (arith, f, laid-first z table l (L l h), first-most ws S l (omega arith), lines-most ws S l h))

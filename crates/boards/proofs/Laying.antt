@@ -1,6 +1,6 @@
 -- Laying a puzzle's lines: one line, and one after another.
 use mathlib.Core.Path.{_≡_, refl, sym, ap, _∙_}
-use mathlib.Core.Bool.{true, false, cond}
+use mathlib.Core.Bool.{cond}
 use mathlib.Core.List.{List, [], _∷_, flatMap}
 use Prim.Native.Nat.{ℕ, zero, suc, _+_, _-_, _*_, _≤_, _<_}
 use native.Mathlib.Omega.{arith}
@@ -11,6 +11,7 @@ use lib.ListN.{length, take, drop, getD, length-drop}
 use borrow.Author.Tests.{lt-ltb, le-ltb, ltb-true, ltb-false}
 use borrow.Rule.Slice.PartMut.{putMid}
 use Rattle.lists.specs.Wrote.{Wrote}
+use Rattle.lists.proofs.Tests.{cond-most}
 use Rattle.lists.proofs.Writing.{wrote-then, wrote-tail, wrote-there, wrote-before, wrote-at, wrote-kept, tail-is}
 use Rattle.refusals.specs.Verdict.{Verdict, accepted, refuse}
 use Rattle.refusals.specs.Told.{told}
@@ -36,8 +37,8 @@ pub line-size : (z : Puzzle) (l : ℕ) → length (laidWords z l) ≡ 4 + length
 unfolding laidWords
 line-size z l = omega (arith, starts-size (lengthAt z l) (clueAt z l))
 
-pub variables-most : (z : Puzzle) (l : ℕ) → length (clueAt z l) ≤ 64 → lengthAt z l ≤ 64 → length (clueAt z l) * positionsAt z l ≤ 4160
-variables-most z l few short =
+pub line-vars : (z : Puzzle) (l : ℕ) → length (clueAt z l) ≤ 64 → lengthAt z l ≤ 64 → length (clueAt z l) * positionsAt z l ≤ 4160
+line-vars z l few short =
     omega (arith, mul-le-mul-right (positionsAt z l) few, positions-bound (lengthAt z l) (clueAt z l))
 
 pub first-most : (ws : List ℕ) → Sectioned ws → (l : ℕ) → l ≤ lines (puzzle ws) → firstAt (puzzle ws) l ≤ 1 + 4160 * l
@@ -45,7 +46,7 @@ unfolding firstAt
 first-most ws S zero h = omega arith
 first-most ws S (suc l) h =
     let F = fine-lines (puzzle ws) (walked-sections ws S .fine) l (omega arith) in
-    omega (arith, first-most ws S l (omega arith), variables-most (puzzle ws) l (F .few) (size-within (lengthAt (puzzle ws) l) (F .sized)))
+    omega (arith, first-most ws S l (omega arith), line-vars (puzzle ws) l (F .few) (size-within (lengthAt (puzzle ws) l) (F .sized)))
 
 -- ---- one line of words whose sections were read
 
@@ -169,7 +170,7 @@ module _ (ws : List ℕ) (S : Sectioned ws) {table : List ℕ} {l at first : ℕ
       omega (
         arith,
         told-accepted (ltb cells (minSpace gap (clueAt (puzzle ws) l))) _ _ _ r t .1,
-        variables-most (puzzle ws) l (line-fine ws S l h .few) (size-within _ (line-fine ws S l h .sized)),
+        line-vars (puzzle ws) l (line-fine ws S l h .few) (size-within _ (line-fine ws S l h .sized)),
       )
 
   pub laying-next : 8704 ≤ length table → {cells : ℕ} → cells ≡ lengthAt (puzzle ws) l → {a : Answer} {v : ℕ} → a ≡ Accepted v → Told (puzzle ws) l cells a → {table′ : List ℕ}
@@ -202,10 +203,6 @@ module _ (ws : List ℕ) (S : Sectioned ws) {table : List ℕ} {l at first : ℕ
           | no k ↦ let q : j ≡ l = omega arith in rw q (wrote-there low w)
         ];
       }
-    where
-      cond-most : (b : _) → cond b 1 0 ≤ 1
-      cond-most true = omega arith
-      cond-most false = omega arith
 
 module _ (ws : List ℕ) {table : List ℕ} {l at first : ℕ} (L : LayingLines (puzzle ws) table l at first) (left : lines (puzzle ws) ≤ l) where
   h : lines (puzzle ws) ≡ l

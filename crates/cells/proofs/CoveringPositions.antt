@@ -1,14 +1,13 @@
 -- The positions that cover a cell: at most 64 of them, all of them variables.
 use mathlib.Core.Path.{_≡_, refl, ap, _∙_}
 use mathlib.Core.Bool.{Bool, true, false}
-use mathlib.Core.List.{List, [], _∷_, _++_, map, map-append}
-use Prim.Native.Nat.{ℕ, zero, suc, _+_, _-_, _≤_, _<_}
+use mathlib.Core.List.{List, map, map-append}
+use Prim.Native.Nat.{ℕ, zero, suc, _-_, _≤_, _<_}
 use native.Mathlib.Omega.{arith}
-use native.Mathlib.Decide.{decLt}
 use lib.Dec.{eqb}
-use lib.ListN.{length, length-append, List·getD-append}
-use lib.Seq.{getD-append-add}
+use lib.ListN.{length}
 use Rattle.lists.specs.Each.{each, when, Every}
+use Rattle.lists.proofs.Everys.{every-one, every-each, every-when}
 use Rattle.lists.proofs.Sums.{sum-below, length-each}
 use Rattle.literals.specs.Literals.{IsVariable}
 use Rattle.lines.specs.Arrangement.{at, covers}
@@ -21,34 +20,11 @@ use Rattle.cells.proofs.BlockPositions.{block-most}
 
 -- ---- what holds of each of them
 
-module _ (P : ℕ → Type 0) where
-  every-append : (us vs : List ℕ) → Every 0 P us → Every 0 P vs → Every 0 P (us ++ vs)
-  every-append us vs a b i h = elim (decLt i (length us)) [
-    | yes l ↦ rw (List·getD-append us vs 0 i l) (a i l)
-    | no l ↦
-        let k = i - length us in
-        let e : i ≡ length us + k = omega arith in
-        rw (e, getD-append-add us vs k 0) (b k (omega (arith, length-append us vs)))
-  ]
-
-  every-each : (n : ℕ) (f : ℕ → List ℕ) → ((k : ℕ) → k < n → Every 0 P (f k)) → Every 0 P (each n f)
-  unfolding each
-  every-each zero f h = λ i l. absurd (omega arith)
-  every-each (suc n) f h = every-append (each n f) (f n) (every-each n f (λ k l. h k (omega arith))) (h n (omega arith))
-
-  every-when : (b : Bool) (us : List ℕ) → Every 0 P us → Every 0 P (when b us)
-  every-when true us h = h
-  every-when false us h = λ i l. absurd (omega arith)
-
-  every-one : (v : ℕ) → P v → Every 0 P (v ∷ [])
-  every-one v h zero l = h
-  every-one v h (suc i) l = absurd (omega arith)
-
-  pub covering-every : (L : Line) (c t : ℕ) → ((b i : ℕ) → b < many L → i < L .positions → P (variable L b i)) → Every 0 P (covering L c t)
-  unfolding covering
-  covering-every L c t h =
-      every-each (many L) _ (λ b k. every-when (eqb (at (L .runs) b .color) c) _
-      (every-each (L .positions) _ (λ i l. every-when (covers (placedAt L b i) t) _ (every-one (variable L b i) (h b i k l)))))
+pub covering-every : (P : ℕ → Type 0) (L : Line) (c t : ℕ) → ((b i : ℕ) → b < many L → i < L .positions → P (variable L b i)) → Every 0 P (covering L c t)
+unfolding covering
+covering-every P L c t h =
+    every-each 0 P (many L) _ (λ b k. every-when 0 P (eqb (at (L .runs) b .color) c) _
+    (every-each 0 P (L .positions) _ (λ i l. every-when 0 P (covers (placedAt L b i) t) _ (every-one 0 P (variable L b i) (h b i k l)))))
 
 -- ---- what is made of each of them
 

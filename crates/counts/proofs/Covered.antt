@@ -9,7 +9,7 @@ use lib.Dec.{eqb, leb, ltb}
 use lib.ListN.{length, length-append, length-map}
 use borrow.Author.Tests.{eq-eqb, ne-eqb, le-leb, lt-leb, lt-ltb, le-ltb}
 use Rattle.lists.specs.Each.{each, when, sum}
-use Rattle.lists.proofs.Sums.{sum-same, sum-both, sum-swap, sum-plus, sum-constant, length-each}
+use Rattle.lists.proofs.Sums.{sum-same, sum-both, sum-swap, sum-plus, sum-constant, length-each, length-when}
 use Rattle.lines.specs.Clue.{Run, end, gap}
 use Rattle.lines.specs.Arrangement.{at, blockAt, covers}
 use Rattle.lines.proofs.Packing.{base-gap, packed-length, packed-color}
@@ -52,12 +52,8 @@ covering-length : (L : Line) (c t : ℕ) → length (covering L c t) ≡ sum (ma
 unfolding covering covered
 covering-length L c t = length-each (many L) _ ∙ sum-same (many L) _ _ (λ b h. block (eqb (at (L .runs) b .color) c) b)
   where
-    one : (x : Bool) (v : ℕ) → length (when x (v ∷ [])) ≡ cond x 1 0
-    one true v = refl
-    one false v = refl
-
     block : (x : Bool) (b : ℕ) → length (when x (each (L .positions) (λ i. when (covers (placedAt L b i) t) (variable L b i ∷ [])))) ≡ cond x (sum (L .positions) (λ i. cond (covers (placedAt L b i) t) 1 0)) 0
-    block true b = length-each (L .positions) _ ∙ sum-same (L .positions) _ _ (λ i h. one (covers (placedAt L b i) t) (variable L b i))
+    block true b = length-each (L .positions) _ ∙ sum-same (L .positions) _ _ (λ i h. length-when (covers (placedAt L b i) t) (variable L b i))
     block false b = refl
 
 module _ (z : Puzzle) (G : Good z) (l : ℕ) (h : l < lines z) where

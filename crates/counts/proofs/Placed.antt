@@ -1,6 +1,6 @@
 -- Families 1 to 6: their clauses and literals are as many as document 01's formulas say.
 use mathlib.Core.Path.{_≡_, refl, _∙_}
-use mathlib.Core.Bool.{Bool, true, false, cond}
+use mathlib.Core.Bool.{cond}
 use mathlib.Core.List.{[], _∷_}
 use Prim.Native.Nat.{ℕ, zero, suc, _+_, _-_, _*_, _/_, _≤_, _<_}
 use native.Mathlib.Omega.{arith}
@@ -10,7 +10,7 @@ use lib.ListN.{length}
 use borrow.Author.Tests.{le-leb, lt-leb}
 use Rattle.lists.specs.Each.{each, tab, when, pairs, product, sum, sumPairs}
 use Rattle.lists.proofs.Eaches.{length-tab}
-use Rattle.lists.proofs.Sums.{sum-same, sum-constant, sum-plus, length-each, length-pairs, length-product}
+use Rattle.lists.proofs.Sums.{sum-same, sum-constant, sum-plus, length-each, length-when, length-pairs, length-product}
 use Rattle.sections.specs.Sections.{notBoth, atMostOne, literals}
 use Rattle.sections.proofs.ClauseLists.{literals-append, literals-each}
 use Rattle.sections.proofs.Rows.{least-length}
@@ -33,10 +33,6 @@ use Rattle.counts.specs.declared.measure.Measure.the-variants as M
 use Rattle.counts.specs.declared.measure.Measure.the-variants.{Blocks}
 use Rattle.counts.proofs.Triangles.{pairs-count, triangle-count}
 use Rattle.counts.proofs.Literals.{HasEach, one-has, each-has, when-has}
-
-when-length : {A : Type 0} (b : Bool) (x : A) → length (when b (x ∷ [])) ≡ cond b 1 0
-when-length true x = refl
-when-length false x = refl
 
 pub once-length : (v n : ℕ) → length (atMostOne v n) ≡ n * (n - 1) / 2
 unfolding atMostOne
@@ -74,7 +70,7 @@ module _ {L : Line} (S : Sound L) where
       let d = distance gap (at (L .runs) a) (at (L .runs) b) in
       length-product (L .positions) _
       ∙ sum-same (L .positions) _ (λ i. i + 1 - d) (λ i k.
-      sum-same (L .positions) _ (λ j. cond (leb (j + d) i) 1 0) (λ j m. when-length (clash gap (placedAt L a i) (placedAt L b j)) _ ∙ rw (sound-clash S a b h l i j))
+      sum-same (L .positions) _ (λ j. cond (leb (j + d) i) 1 0) (λ j m. length-when (clash gap (placedAt L a i) (placedAt L b j)) _ ∙ rw (sound-clash S a b h l i j))
       ∙ behind d i (L .positions) (sound-distance S a b h l) k)
       ∙ triangle-count d (sound-distance S a b h l) (L .positions)
 

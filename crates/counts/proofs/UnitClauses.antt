@@ -12,7 +12,7 @@ use lib.Count.{ones}
 use lib.ListN.{length, getD}
 use borrow.Author.Tests.{eq-eqb, ne-eqb, eqb-true}
 use Rattle.lists.specs.Each.{each, when, sum}
-use Rattle.lists.proofs.Sums.{sum-both, sum-at, sum-parts, sum-same, sum-below, sum-plus, sum-constant, length-each}
+use Rattle.lists.proofs.Sums.{sum-both, sum-at, sum-parts, sum-same, sum-below, sum-plus, sum-constant, length-each, length-when}
 use Rattle.lists.proofs.Parts.{place-within}
 use Rattle.lists.proofs.Tests.{both}
 use Rattle.literals.specs.Literals.{positive, negative}
@@ -35,13 +35,9 @@ use Rattle.counts.proofs.Literals.{HasEach, one-has, each-has, when-has
 pub bits-set : (mask : ℕ) → length (powers mask) ≡ cond (bit mask 0) 1 0 + sum 31 (λ k. cond (bit mask (suc k)) 1 0)
 unfolding powers
 bits-set mask =
-    length-each 32 _ ∙ sum-same 32 _ (λ k. cond (bit mask k) 1 0) (λ k _. one (bit mask k) (2 ^ k))
+    length-each 32 _ ∙ sum-same 32 _ (λ k. cond (bit mask k) 1 0) (λ k _. length-when (bit mask k) (2 ^ k))
     ∙ sum-plus 1 31 (λ k. cond (bit mask k) 1 0)
     ∙ unfold sum in omega (arith, sum-same 31 (λ k. cond (bit mask (1 + k)) 1 0) (λ k. cond (bit mask (suc k)) 1 0) (λ k _. rw (one-add k)))
-  where
-    one : (b : Bool) (x : ℕ) → length (when b (x ∷ [])) ≡ cond b 1 0
-    one true x = refl
-    one false x = refl
 
 -- the colours of a set that a mask has
 pub included : ℕ → ℕ → ℕ

@@ -1,14 +1,12 @@
 -- Every literal of the ten families is v or -v, where v is a variable of the puzzle, 1 to V.
-use mathlib.Core.Path.{_≡_, refl}
+use mathlib.Core.Path.{refl}
 use mathlib.Core.Bool.{Bool, true, false, not, cond}
-use mathlib.Core.List.{List, [], _∷_, _++_, map}
-use Prim.Native.Nat.{ℕ, zero, suc, _+_, _-_, _≤_, _<_}
+use mathlib.Core.List.{List, [], _∷_, map}
+use Prim.Native.Nat.{ℕ, suc, _+_, _-_, _≤_, _<_}
 use native.Mathlib.Omega.{arith}
-use native.Mathlib.Decide.{decLt}
 use lib.IntN.{ℤ, pos}
-use lib.ListN.{length, length-append, List·getD-append}
-use lib.Seq.{getD-append-add}
-use Rattle.lists.specs.Each.{each, tab, when, pairs, product, Every}
+use Rattle.lists.specs.Each.{when, pairs, product, Every}
+use Rattle.lists.proofs.Everys.{These, every-more, every-one, every-append, every-each, every-tab, every-when, every-map, every-these}
 use Rattle.bits.specs.Bits.{bit}
 use Rattle.literals.specs.Literals.{positive, negative}
 use Rattle.literals.proofs.Readings.{made-literal}
@@ -35,51 +33,6 @@ use Rattle.cells.proofs.CoveringPositions.{covering-every}
 use Rattle.counts.specs.Families.{families}
 use Rattle.dimacs.proofs.Readers.{IsLiteral, FineSection}
 
--- ---- what holds of each element of a list
-
-All : {A : Type 0} → A → (A → Type 0) → List A → Type 0
-All d P l = Every d P l
-
-module _ {A : Type 0} (d : A) (P : A → Type 0) where
-  all-none : All d P []
-  unfolding All
-  all-none k h = absurd (omega arith)
-
-  all-more : (a : A) (l : List A) → P a → All d P l → All d P (a ∷ l)
-  unfolding All
-  all-more a l p h zero k = p
-  all-more a l p h (suc i) k = h i (omega arith)
-
-  all-one : (a : A) → P a → All d P (a ∷ [])
-  all-one a p = all-more a [] p all-none
-
-  all-append : (l m : List A) → All d P l → All d P m → All d P (l ++ m)
-  unfolding All
-  all-append l m a b k h = elim (decLt k (length l)) [
-    | yes i ↦ rw (List·getD-append l m d k i) (a k i)
-    | no i ↦
-        let j = k - length l in
-        let e : k ≡ length l + j = omega arith in
-        rw (e, getD-append-add l m j d) (b j (omega (arith, length-append l m)))
-  ]
-
-  all-each : (n : ℕ) (f : ℕ → List A) → ((k : ℕ) → k < n → All d P (f k)) → All d P (each n f)
-  unfolding each
-  all-each zero f h = all-none
-  all-each (suc n) f h = all-append (each n f) (f n) (all-each n f (λ k l. h k (omega arith))) (h n (omega arith))
-
-  all-tab : (n : ℕ) (f : ℕ → A) → ((k : ℕ) → k < n → P (f k)) → All d P (tab n f)
-  unfolding tab
-  all-tab n f h = all-each n _ (λ k l. all-one (f k) (h k l))
-
-  all-when : (b : Bool) (l : List A) → All d P l → All d P (when b l)
-  all-when true l h = h
-  all-when false l h = all-none
-
-  all-map : (f : ℕ → A) (us : List ℕ) → Every 0 (λ u. P (f u)) us → All d P (map f us)
-  all-map f [] h = all-none
-  all-map f (u ∷ us) h = all-more (f u) (map f us) (h 0 (omega arith)) (all-map f us (λ i l. h (suc i) (omega arith)))
-
 -- ---- clauses of the variables of a puzzle
 
 module _ (z : Puzzle) (G : Good z) where
@@ -88,10 +41,10 @@ module _ (z : Puzzle) (G : Good z) where
   Of v = (0 < v) × (v ≤ variables z)
 
   abbrev Fine : Clause → Type 0
-  Fine = All (pos 0) (IsLiteral (variables z))
+  Fine = Every (pos 0) (IsLiteral (variables z))
 
   abbrev FineAll : List Clause → Type 0
-  FineAll = All [] Fine
+  FineAll = Every [] Fine
 
   positive-fine : (v : ℕ) → Of v → IsLiteral (variables z) (positive v)
   positive-fine v o = made-literal (variables z) (positive v) refl (record { least = o .0; most = omega (arith, o .1, variables-most z G) }) (o .1)
@@ -100,25 +53,25 @@ module _ (z : Puzzle) (G : Good z) where
   negative-fine v o = made-literal (variables z) (negative v) (variable-negative v) (record { least = o .0; most = omega (arith, o .1, variables-most z G) }) (o .1)
 
   one-fine : (c : Clause) → Fine c → FineAll (c ∷ [])
-  one-fine c f = all-one [] Fine c f
+  one-fine c f = every-one [] Fine c f
 
   unit-fine : (l : ℤ) → IsLiteral (variables z) l → Fine (l ∷ [])
-  unit-fine l f = all-one (pos 0) (IsLiteral (variables z)) l f
+  unit-fine l f = every-one (pos 0) (IsLiteral (variables z)) l f
 
   two-fine : (k l : ℤ) → IsLiteral (variables z) k → IsLiteral (variables z) l → Fine (k ∷ l ∷ [])
-  two-fine k l f g = all-more (pos 0) (IsLiteral (variables z)) k (l ∷ []) f (unit-fine l g)
+  two-fine k l f g = every-more (pos 0) (IsLiteral (variables z)) k (l ∷ []) f (unit-fine l g)
 
   both-fine : (u v : ℕ) → Of u → Of v → FineAll (notBoth u v ∷ [])
   both-fine u v o p = one-fine _ (two-fine (negative u) (negative v) (negative-fine u o) (negative-fine v p))
 
   least-fine : (v n : ℕ) → ((i : ℕ) → i < n → Of (v + i)) → Fine (atLeastOne v n)
   unfolding atLeastOne
-  least-fine v n o = all-tab (pos 0) (IsLiteral (variables z)) n _ (λ i h. positive-fine (v + i) (o i h))
+  least-fine v n o = every-tab (pos 0) (IsLiteral (variables z)) n _ (λ i h. positive-fine (v + i) (o i h))
 
   once-fine : (v n : ℕ) → ((i : ℕ) → i < n → Of (v + i)) → FineAll (atMostOne v n)
   unfolding atMostOne pairs
   once-fine v n o =
-      all-each [] Fine n _ (λ i h. all-each [] Fine (n - suc i) _ (λ j l. both-fine (v + i) (v + (suc i + j)) (o i h) (o (suc i + j) (omega arith))))
+      every-each [] Fine n _ (λ i h. every-each [] Fine (n - suc i) _ (λ j l. both-fine (v + i) (v + (suc i + j)) (o i h) (o (suc i + j) (omega arith))))
 
   -- ---- families 1 to 6
 
@@ -129,27 +82,27 @@ module _ (z : Puzzle) (G : Good z) where
 
     ruled-fine : (rule : Rule) → FineAll (ruled rule (lineAt z l))
     unfolding ruled blockPositions blockOnce nonOverlap pairs product
-    ruled-fine Positions = all-tab [] Fine (many (lineAt z l)) _ (λ b k. least-fine (firstOf (lineAt z l) b) (lineAt z l .positions) (λ i m. position-of b i k m))
-    ruled-fine Once = all-each [] Fine (many (lineAt z l)) _ (λ b k. once-fine (firstOf (lineAt z l) b) (lineAt z l .positions) (λ i m. position-of b i k m))
+    ruled-fine Positions = every-tab [] Fine (many (lineAt z l)) _ (λ b k. least-fine (firstOf (lineAt z l) b) (lineAt z l .positions) (λ i m. position-of b i k m))
+    ruled-fine Once = every-each [] Fine (many (lineAt z l)) _ (λ b k. once-fine (firstOf (lineAt z l) b) (lineAt z l .positions) (λ i m. position-of b i k m))
     ruled-fine Overlap =
         let L = lineAt z l in
-        all-each [] Fine (many L) _ (λ a k. all-each [] Fine (many L - suc a) _ (λ b m. all-each [] Fine (L .positions) _ (λ i p. all-each [] Fine (L .positions) _ (λ j q.
-        all-when [] Fine (clash gap (placedAt L a i) (placedAt L (suc a + b) j)) _
+        every-each [] Fine (many L) _ (λ a k. every-each [] Fine (many L - suc a) _ (λ b m. every-each [] Fine (L .positions) _ (λ i p. every-each [] Fine (L .positions) _ (λ j q.
+        every-when [] Fine (clash gap (placedAt L a i) (placedAt L (suc a + b) j)) _
         (both-fine (variable L a i) (variable L (suc a + b) j) (position-of a i k p) (position-of (suc a + b) j (omega arith) q))))))
 
   lines-fine : (rule : Rule) (l n : ℕ) → l + n ≤ lines z → FineAll (ofLines z rule l n)
   unfolding ofLines
-  lines-fine rule l n h = all-each [] Fine n _ (λ k i. ruled-fine (l + k) (omega arith) rule)
+  lines-fine rule l n h = every-each [] Fine n _ (λ k i. ruled-fine (l + k) (omega arith) rule)
 
   -- ---- families 7 to 10
 
   cover-fine : (rule : D.Rule) (v : ℕ) (us : List ℕ) → Of v → Every 0 Of us → FineAll (C.ruled rule v us)
   unfolding C.ruled
   cover-fine Color v us o h =
-      one-fine _ (all-append (pos 0) (IsLiteral (variables z)) (map positive us) (negative v ∷ [])
-      (all-map (pos 0) (IsLiteral (variables z)) positive us (λ i k. positive-fine _ (h i k))) (unit-fine (negative v) (negative-fine v o)))
+      one-fine _ (every-append (pos 0) (IsLiteral (variables z)) (map positive us) (negative v ∷ [])
+      (every-map (pos 0) (IsLiteral (variables z)) 0 positive us (λ i k. positive-fine _ (h i k))) (unit-fine (negative v) (negative-fine v o)))
   cover-fine Space v us o h =
-      all-map [] Fine (λ u. negative u ∷ positive v ∷ []) us (λ i k. two-fine _ _ (negative-fine _ (h i k)) (positive-fine v o))
+      every-map [] Fine 0 (λ u. negative u ∷ positive v ∷ []) us (λ i k. two-fine _ _ (negative-fine _ (h i k)) (positive-fine v o))
 
   cell-of : (x y r : ℕ) → x < width z → y < height z → r < hues z → Of (cellVariable z x y r)
   cell-of x y r h k m = number-within z (cell x y r) (h, k, m)
@@ -160,36 +113,35 @@ module _ (z : Puzzle) (G : Good z) where
   cells-fine : (rule : D.Rule) → FineAll (ofCells z rule)
   unfolding byColumn ofColor
   cells-fine rule =
-      all-each [] Fine (width z) _ (λ x i. all-each [] Fine (height z) _ (λ y j. all-each [] Fine (hues z) _ (λ r k.
-      all-append [] Fine _ _
-      (cover-fine rule (cellVariable z x y r) _ (cell-of x y r i j k) (covering-of x (hue z r) y (omega arith)))
-      (cover-fine rule (cellVariable z x y r) _ (cell-of x y r i j k) (covering-of (width z + y) (hue z r) x (omega arith))))))
+      every-each [] Fine (width z) _ (λ x i. every-each [] Fine (height z) _ (λ y j. every-each [] Fine (hues z) _ (λ r k.
+      let v = cellVariable z x y r in
+      let us = covering (lineAt z x) (hue z r) y in
+      let vs = covering (lineAt z (width z + y)) (hue z r) x in
+      every-append [] Fine (C.ruled rule v us) (C.ruled rule v vs)
+      (cover-fine rule v us (cell-of x y r i j k) (covering-of x (hue z r) y (omega arith)))
+      (cover-fine rule v vs (cell-of x y r i j k) (covering-of (width z + y) (hue z r) x (omega arith))))))
 
   points-fine : FineAll (pointOnce z)
   unfolding byColumn
-  points-fine = all-each [] Fine (width z) _ (λ x i. all-each [] Fine (height z) _ (λ y j. once-fine (cellFirst z x y) (hues z) (λ r k. cell-of x y r i j k)))
+  points-fine = every-each [] Fine (width z) _ (λ x i. every-each [] Fine (height z) _ (λ y j. once-fine (cellFirst z x y) (hues z) (λ r k. cell-of x y r i j k)))
 
   units-fine : FineAll (precomputedCells z)
   unfolding precomputedCells precomputed
   units-fine =
-      all-each [] Fine (height z) _ (λ y j. all-each [] Fine (width z) _ (λ x i. all-each [] Fine (hues z) _ (λ r k.
+      every-each [] Fine (height z) _ (λ y j. every-each [] Fine (width z) _ (λ x i. every-each [] Fine (hues z) _ (λ r k.
       unit (solved (C.maskAt z x y)) (bit (C.maskAt z x y) 0) (bit (C.maskAt z x y) (hue z r)) (cellVariable z x y r) (cell-of x y r i j k))))
     where
       unit : (s b m : Bool) (v : ℕ) → Of v → FineAll (cond s (cond b ((negative v ∷ []) ∷ []) (when m ((positive v ∷ []) ∷ []))) (when (not m) ((negative v ∷ []) ∷ [])))
       unit true true m v o = one-fine _ (unit-fine _ (negative-fine v o))
-      unit true false m v o = all-when [] Fine m _ (one-fine _ (unit-fine _ (positive-fine v o)))
-      unit false b m v o = all-when [] Fine (not m) _ (one-fine _ (unit-fine _ (negative-fine v o)))
+      unit true false m v o = every-when [] Fine m _ (one-fine _ (unit-fine _ (positive-fine v o)))
+      unit false b m v o = every-when [] Fine (not m) _ (one-fine _ (unit-fine _ (negative-fine v o)))
 
   -- ---- all ten
 
-  all-fine : All [] FineAll (families z)
-  unfolding families
-  all-fine =
-      let more : (s : List Clause) (ss : List (List Clause)) → FineAll s → All [] FineAll ss → All [] FineAll (s ∷ ss) = all-more [] FineAll in
-      let side : (rule : Rule) (ss : List (List Clause)) → All [] FineAll ss → All [] FineAll (ofColumns z rule ∷ ofRows z rule ∷ ss) = λ rule ss h.
-      more _ _ (lines-fine rule 0 (width z) (omega arith)) (more _ _ (lines-fine rule (width z) (height z) (omega arith)) h) in
-      side Positions _ (side Once _ (side Overlap _ (more _ _ (cells-fine Color) (more _ _ (cells-fine Space) (more _ _ points-fine (more _ _ units-fine (all-none [] FineAll)))))))
-
   pub families-fine : Every [] (FineSection (variables z)) (families z)
-  unfolding All
-  families-fine = all-fine
+  unfolding families These
+  families-fine =
+      let columns : (rule : Rule) → FineAll (ofColumns z rule) = λ rule. lines-fine rule 0 (width z) (omega arith) in
+      let rows : (rule : Rule) → FineAll (ofRows z rule) = λ rule. lines-fine rule (width z) (height z) (omega arith) in
+      every-these [] FineAll (families z)
+      (columns Positions, (rows Positions, (columns Once, (rows Once, (columns Overlap, (rows Overlap, (cells-fine Color, (cells-fine Space, (points-fine, (units-fine, tt))))))))))

@@ -3,7 +3,7 @@ use mathlib.Core.Path.{_≡_, sym, ap, _∙_}
 use mathlib.Core.List.{List, [], _∷_}
 use Prim.Native.Nat.{ℕ, _+_, _*_, _/_, _%_, _≤_, _<_}
 use native.Mathlib.Omega.{arith}
-use native.Mathlib.Nat.{mul-comm, mul-zero, mul-le-mul, div-add-mod', mod-lt, div-lt-iff-lt-mul}
+use native.Mathlib.Nat.{mul-comm, mul-zero, div-add-mod', mod-lt, div-lt-iff-lt-mul}
 use native.Mathlib.Decide.{decLt}
 use lib.ListN.{length, getD}
 use lib.Seq.{ext-getD}
@@ -12,11 +12,9 @@ use Rattle.lists.specs.Wrote.{Wrote}
 use Rattle.lists.proofs.Eaches.{each-length, length-tab, getD-tab}
 use Rattle.lists.proofs.Parts.{place-within, getD-each}
 use Rattle.lists.proofs.Emitting.{Emitting, emit-first, emit-room, emit-done}
+use Rattle.puzzles.proofs.Places.{area-most}
 use Rattle.grids.specs.Sized.{Sized}
 use Rattle.grids.specs.Grid.{row, column, transposed}
-
-pub area-most : {w h : ℕ} → w ≤ 64 → h ≤ 64 → w * h ≤ 4096
-area-most {w} {h} a b = mul-le-mul {n₁ = w} {m₁ = h} {n₂ = 64} {m₂ = 64} a b
 
 -- the place of cell x of row y
 pub cell-within : (w h x y : ℕ) → x < w → y < h → y * w + x < w * h
@@ -24,7 +22,7 @@ cell-within w h x y i j = omega (arith, place-within h w y x j i, mul-comm w h)
 
 module _ {w h : ℕ} {grid : List ℕ} (S : Sized w h grid) where
   pub sized-most : length grid ≤ 4096
-  sized-most = omega (arith, S .cells, area-most (S .width-most) (S .height-most))
+  sized-most = omega (arith, S .cells, area-most w h (S .width-most) (S .height-most))
 
   pub place-in : {x y : ℕ} → x < w → y < h → y * w + x < length grid
   place-in {x} {y} i j = omega (arith, S .cells, cell-within w h x y i j)

@@ -2,12 +2,10 @@
 use mathlib.Core.Path.{_≡_}
 use mathlib.Core.Bool.{true, false, not}
 use mathlib.Core.List.{List}
-use Prim.Native.Nat.{ℕ, _*_, _<_}
-use native.Mathlib.Omega.{arith}
+use Prim.Native.Nat.{ℕ, _*_}
 use lib.ListN.{length, getD}
 use lib.Dec.{eqb, ltb}
-use borrow.Author.Tests.{eq-eqb, ne-eqb, eqb-true, eqb-false, ltb-false, not-false}
-use Rattle.lists.proofs.Tests.{neither}
+use borrow.Author.Tests.{eq-eqb, ne-eqb, eqb-true, ltb-false, not-false}
 use Rattle.refusals.specs.Verdict.{accepted, refused}
 use Rattle.refusals.specs.Told.{told}
 use Rattle.refusals.specs.declared.Refusal.{Refusal}
@@ -17,6 +15,7 @@ use Rattle.refusals.proofs.Answering.{handed-up, refuse-accepted, then-accepted
 use Rattle.refusals.proofs.Offending.{none-off}
 use Rattle.lines.specs.Calls.{offSize, byteChecks}
 use Rattle.lines.proofs.Checks.{size-within}
+use Rattle.puzzles.proofs.Accepting.{size-some}
 use Rattle.grids.specs.Grid.{sizeChecks, gridChecks}
 use Rattle.grids.specs.Mask.{Colored}
 use Rattle.grids.specs.Sized.{Sized}
@@ -39,9 +38,6 @@ module _ (w h : ℕ) (grid : List ℕ) where
       pub size-accepted : length grid ≡ w * h → accepted 0 ≡ sizeChecks w h grid
       unfolding sizeChecks
       size-accepted e = rw (a, b, eq-eqb _ _ e)
-
-size-some : (n : ℕ) → offSize n ≡ false → 0 < n
-size-some n e = let z = eqb-false n 0 (neither (eqb n 0) (ltb 64 n) e .0) in omega arith
 
 module _ {w h : ℕ} {grid : List ℕ} {n : ℕ} where
   pub size-ok : accepted n ≡ sizeChecks w h grid → Sized w h grid

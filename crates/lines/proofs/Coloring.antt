@@ -1,6 +1,6 @@
 -- The blocks that reading a line finds: their words, how many, the space that they need, and their colours, which are those of the cells.
 use mathlib.Core.Path.{_≡_, refl, sym, ap, _∙_}
-use mathlib.Core.List.{List, [], _∷_}
+use mathlib.Core.List.{List}
 use Prim.Native.Nat.{ℕ, zero, suc, _-_, _*_, _≤_, _<_}
 use native.Mathlib.Omega.{arith}
 use native.Mathlib.Nat.{le-refl}
@@ -11,16 +11,12 @@ use Rattle.lines.specs.Line.{runs}
 use Rattle.lines.specs.Calls.{lineWords}
 use Rattle.lines.specs.Arrangement.{blockAt, at}
 use Rattle.lines.proofs.Packing.{base-gap, block, block-at}
+use Rattle.lines.proofs.ClueWords.{words-length}
 use Rattle.lines.proofs.Laying.{Laid, painted, paints}
 use Rattle.lines.proofs.Reading.{Shown, shown, base-spaced}
 use Rattle.lines.proofs.Arranging.{arranged}
 
 -- ---- their words
-
-words-length : (bs : List Block) → length (words bs) ≡ 2 * length bs
-unfolding words
-words-length [] = refl
-words-length (b ∷ bs) = omega (arith, words-length bs)
 
 pub line-words : (line : List ℕ) → lineWords line ≡ words (runs line)
 unfolding lineWords

@@ -1,6 +1,5 @@
 -- The packed line: a run for each block, each next one at the end of the one before plus the gap, and the last end is the least space.
 use mathlib.Core.Path.{_≡_, refl, sym, ap, _∙_}
-use mathlib.Core.Bool.{true, false, cond}
 use mathlib.Core.List.{List, [], _∷_, map}
 use Prim.Native.Nat.{ℕ, zero, suc, _+_, _-_, _≤_, _<_}
 use native.Mathlib.Omega.{arith}
@@ -10,6 +9,7 @@ use lib.Dec.{eqb}
 use borrow.Author.Tests.{eq-eqb, ne-eqb}
 use Rattle.lists.specs.Each.{sum}
 use Rattle.lists.proofs.Sums.{sum-least}
+use Rattle.lists.proofs.Tests.{cond-most}
 use Rattle.lines.specs.Clue.{Block, Run, end, gap, packedFrom, packed, starts, lastEnd, minSpace}
 use Rattle.lines.specs.Arrangement.{Gap, Proper, blockAt, at}
 
@@ -18,7 +18,7 @@ pub base-gap : Gap gap
 unfolding gap
 base-gap = record {
   same = λ c h. rw (eq-eqb c c refl);
-  most = λ c d. elim (eqb c d) as (λ x. cond x 1 0 ≤ 1) [ true ↦ omega arith | false ↦ omega arith ];
+  most = λ c d. cond-most (eqb c d);
   first = λ d h. rw (ne-eqb 0 d (λ e. omega arith));
 }
 

@@ -1,6 +1,7 @@
 pub mod Dropping
 pub mod Eaches
 pub mod Emitting
+pub mod Everys
 pub mod Parts
 pub mod Tests
 pub mod Writing

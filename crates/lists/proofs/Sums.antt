@@ -1,12 +1,13 @@
 -- The laws of `sum`, and lengths as sums.
 use mathlib.Core.Path.{_≡_, refl, sym, _∙_}
-use mathlib.Core.List.{List}
+use mathlib.Core.Bool.{Bool, true, false, cond}
+use mathlib.Core.List.{List, [], _∷_}
 use Prim.Native.Nat.{ℕ, zero, suc, _+_, _-_, _*_, _≤_, _<_}
 use native.Mathlib.Omega.{arith}
 use native.Mathlib.Nat.{add-zero, add-suc, mul-zero, mul-add, zero-mul, suc-mul}
 use native.Mathlib.Decide.{ℕ-discrete}
 use lib.ListN.{length, length-append}
-use Rattle.lists.specs.Each.{each, pairs, product, sum, sumPairs}
+use Rattle.lists.specs.Each.{each, pairs, product, when, sum, sumPairs}
 
 pub sum-same : (n : ℕ) (f g : ℕ → ℕ) → ((k : ℕ) → k < n → f k ≡ g k) → sum n f ≡ sum n g
 unfolding sum
@@ -85,6 +86,10 @@ module _ {A : Type 0} where
   unfolding each sum
   length-each zero f = refl
   length-each (suc n) f = rw (length-append, length-each n f)
+
+  pub length-when : (b : Bool) (x : A) → length (when b (x ∷ [])) ≡ cond b 1 0
+  length-when true x = refl
+  length-when false x = refl
 
   pub length-pairs : (n : ℕ) (f : ℕ → ℕ → List A) → length (pairs n f) ≡ sumPairs n (λ i j. length (f i j))
   unfolding pairs sumPairs

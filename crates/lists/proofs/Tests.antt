@@ -1,6 +1,8 @@
--- Tests that are joined, turned or equal.
+-- Tests that are joined, turned, equal or counted.
 use mathlib.Core.Path.{_≡_, refl, sym}
-use mathlib.Core.Bool.{Bool, true, false, _||_, _&&_, not, true≢false, false≢true}
+use mathlib.Core.Bool.{Bool, true, false, _||_, _&&_, not, cond, true≢false, false≢true}
+use Prim.Native.Nat.{_≤_}
+use native.Mathlib.Omega.{arith}
 
 pub neither : (a b : Bool) → (a || b) ≡ false → (a ≡ false) × (b ≡ false)
 neither true b e = absurd (true≢false e)
@@ -23,3 +25,8 @@ pub same-tests : (a b : Bool) → (a ≡ true → b ≡ true) → (b ≡ true �
 same-tests true b f g = sym (f refl)
 same-tests false true f g = g refl
 same-tests false false f g = refl
+
+-- a test counts 1 at most
+pub cond-most : (b : Bool) → cond b 1 0 ≤ 1
+cond-most true = omega arith
+cond-most false = omega arith

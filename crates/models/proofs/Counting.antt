@@ -1,16 +1,16 @@
 -- What the loops over a model find: its first bad byte, how many variables are true, the first cell with two.
 use mathlib.Core.Path.{_≡_, refl, sym, _∙_}
-use mathlib.Core.Bool.{Bool, true, false, cond}
-use mathlib.Core.List.{[], _∷_}
+use mathlib.Core.Bool.{true, false}
 use Prim.Native.Nat.{ℕ, zero, suc, _+_, _*_, _≤_, _<_}
 use native.Mathlib.Omega.{arith}
 use native.Mathlib.Numerals.{add-one}
 use lib.Dec.{ltb}
 use lib.ListN.{length}
 use borrow.Author.Tests.{lt-ltb, le-ltb}
-use Rattle.lists.specs.Each.{tab, sum, when}
+use Rattle.lists.specs.Each.{tab, sum}
 use Rattle.lists.proofs.Eaches.{length-tab, getD-tab}
-use Rattle.lists.proofs.Sums.{sum-same, length-each}
+use Rattle.lists.proofs.Sums.{sum-same, length-each, length-when}
+use Rattle.lists.proofs.Tests.{cond-most}
 use Rattle.literals.specs.Literals.{negative}
 use Rattle.refusals.specs.Verdict.{accepted, refused}
 use Rattle.refusals.proofs.Offending.{Searching, searching-found, searching-next, searching-done}
@@ -35,20 +35,12 @@ module _ (β : Assignment) (v : ℕ) where
   pub trues-most : (n : ℕ) → trues β v n ≤ n
   unfolding trues sum
   trues-most zero = omega arith
-  trues-most (suc n) = omega (arith, trues-most n, most (β (v + n)))
-    where
-      most : (b : Bool) → cond b 1 0 ≤ 1
-      most true = omega arith
-      most false = omega arith
+  trues-most (suc n) = omega (arith, trues-most n, cond-most (β (v + n)))
 
   -- as many are negated
   pub trues-negated : (n : ℕ) → trues β v n ≡ length (negated β v n)
   unfolding trues negated
-  trues-negated n = sum-same n _ _ (λ k l. one (β (v + k)) (v + k)) ∙ sym (length-each n _)
-    where
-      one : (b : Bool) (u : ℕ) → cond b 1 0 ≡ length (when b (negative u ∷ []))
-      one true u = refl
-      one false u = refl
+  trues-negated n = sym (length-each n _ ∙ sum-same n _ _ (λ k l. length-when (β (v + k)) (negative (v + k))))
 
 -- ---- the first cell of two true colours
 

@@ -2,13 +2,14 @@
 use mathlib.Core.Path.{_≡_, refl, sym, ap, _∙_}
 use mathlib.Core.Bool.{Bool, true, false, cond}
 use mathlib.Core.List.{List}
-use Prim.Native.Nat.{ℕ, suc, _+_, _-_, _*_, _≤_, _<_}
+use Prim.Native.Nat.{ℕ, suc, _+_, _-_, _*_, _<_}
 use native.Mathlib.Omega.{arith}
 use lib.Dec.{eqb, ltb}
 use lib.ListN.{length, getD}
 use borrow.Author.Tests.{lt-ltb, le-ltb}
 use Rattle.lists.specs.Each.{tab}
 use Rattle.lists.proofs.Eaches.{length-tab, getD-tab}
+use Rattle.lists.proofs.Tests.{cond-most}
 use Rattle.lines.specs.Clue.{gap}
 use Rattle.lines.proofs.Packing.{packed-length}
 use Rattle.puzzles.specs.Puzzle.{Puzzle, width, height, lines, clueAt}
@@ -50,14 +51,10 @@ module _ (z : Puzzle) (grid : List ℕ) where
   byte-at i h = getD-tab {A = ℕ} (variables z) (λ i. cond (toldOf .0 i) 1 0) 0 i h
 
   pub is-model : Model z model
-  is-model = record { size = size; bytes = λ i h. rw (byte-at i (rw size at h)) (most (toldOf .0 i)) }
+  is-model = record { size = size; bytes = λ i h. rw (byte-at i (rw size at h)) (cond-most (toldOf .0 i)) }
     where
       size : length model ≡ variables z
       size = unfold model in length-tab (variables z) _
-
-      most : (b : Bool) → cond b 1 0 ≤ 1
-      most true = omega arith
-      most false = omega arith
 
   -- its assignment says of each name's variable what the grid says
   model-told : (n : Name) → IsName z n → value model (number z n) ≡ told n

@@ -7,13 +7,13 @@ use native.Mathlib.Omega.{arith}
 use native.Mathlib.Nat.{mul-one, mul-add, mul-comm, mul-le-mul-left}
 use native.Mathlib.Decide.{ℕ-discrete, decLt}
 use lib.Dec.{eqb}
-use lib.IntN.{ℤ}
 use lib.ListN.{length, drop, getD, length-append, length-map, length-drop}
 use lib.Pow.{pow-mono}
 use borrow.Author.Tests.{eq-eqb, ne-eqb}
 use Rattle.lists.specs.Each.{each, when, sum}
 use Rattle.lists.proofs.Parts.{each-most}
-use Rattle.lists.proofs.Sums.{sum-same, sum-constant, sum-most, length-each}
+use Rattle.lists.proofs.Sums.{sum-same, sum-constant, sum-most, length-each, length-when}
+use Rattle.lists.proofs.Tests.{cond-most}
 use Rattle.literals.specs.Literals.{positive, negative}
 use Rattle.sections.specs.Sections.{Clause, clausesWords, atLeastOne}
 use Rattle.sections.proofs.ClauseLists.{clauses-length}
@@ -100,24 +100,16 @@ premise-length K small v c k = elim (ℕ-discrete c 0) [
   | no e ↦
       let b : bit K c ≡ true = rw (ne-eqb c 0 e) at k in
       rw (ne-eqb c 0 e)
-      (length-each (length (palette K)) _ ∙ sum-same (length (palette K)) _ (λ r. same c (getD (palette K) r 0)) (λ r _. one (eqb (getD (palette K) r 0) c) (negative (v + r))) ∙ sames K c small e ∙ rw b)
+      (length-each (length (palette K)) _ ∙ sum-same (length (palette K)) _ (λ r. same c (getD (palette K) r 0)) (λ r _. length-when (eqb (getD (palette K) r 0) c) (negative (v + r))) ∙ sames K c small e ∙ rw b)
 ]
-  where
-    one : (b : Bool) (l : ℤ) → length (when b (l ∷ [])) ≡ cond b 1 0
-    one true l = refl
-    one false l = refl
 
 pub premise-most : (cs : List ℕ) (v c : ℕ) → length (premiseOf cs v c) ≤ length cs
 unfolding premiseOf
 premise-most cs v c = cases (eqb c 0)
   where
-    few : (b : Bool) (l : ℤ) → length (when b (l ∷ [])) ≤ 1
-    few true l = omega arith
-    few false l = omega arith
-
     cases : (b : Bool) → length (cond b (atLeastOne v (length cs)) (each (length cs) (λ r. when (eqb (getD cs r 0) c) (negative (v + r) ∷ [])))) ≤ length cs
     cases true = omega (arith, least-length v (length cs))
-    cases false = omega (arith, each-most (length cs) 1 (λ r. when (eqb (getD cs r 0) c) (negative (v + r) ∷ [])) (λ r. few (eqb (getD cs r 0) c) (negative (v + r))), mul-one (length cs))
+    cases false = omega (arith, each-most (length cs) 1 (λ r. when (eqb (getD cs r 0) c) (negative (v + r) ∷ [])) (λ r. omega (arith, length-when (eqb (getD cs r 0) c) (negative (v + r)), cond-most (eqb (getD cs r 0) c))), mul-one (length cs))
 
 -- ---- of a probe: each clause has the literals of the premise and one more
 

@@ -1,4 +1,4 @@
-use Rattle.boards.proofs.Laying.{line-fine, lay-kept, lay-fits, lay-wrote, lay-positions, variables-most, Room, room, lay-refused}
+use Rattle.boards.proofs.Laying.{line-fine, lay-kept, lay-fits, lay-wrote, lay-positions, line-vars, Room, room, lay-refused}
 use Rattle.puzzles.specs.Firsts.{positionsAt}
 use Rattle.lines.proofs.Checks.{size-within}
 use Rattle.refusals.specs.Verdict.{accepted}
@@ -50,6 +50,6 @@ lay-line-spec =
     (λ c. omega (arith, room-is (c .before .before .before .before .before .before .before .before .before .before .before .before .before .before .before), c .before .before .before .before .before .before .before .before .before .put-pair .ensures))
     (λ c. omega (arith, room-is (c .before .before .before .before .before .before .before .before .before .before .before .before .before .before .before .before), c .before .before .before .before .before .before .before .before .before .before .put-pair .ensures, c .before .before .before .before .before .before .before .before .before .before .before .before .before .before .before .before .pre .1 .1, lay-kept _ (c .before .before .before .before .before .before .before .before .before .before .before .before .before .before .before .before .pre .0) _ (c .before .before .before .before .before .before .before .before .before .before .before .before .before .before .before .before .pre .1 .1 .0) {at = c .before .before .before .before .before .before .before .before .before .before .before .before .before .before .before .before .args .at} {first = c .before .before .before .before .before .before .before .before .before .before .before .before .before .before .before .before .args .first} (c .before .before .before .before .before .before .before .before .before .before .before .before .before .before .before .before .pre .1 .0) (c .before .before .before .before .before .before .before .before .before .before .before .before .before .before .before .before .pre .1 .1 .1) _ (c .before .before .before .before .before .before .before .before .before .before .before .before .before .before .before .before .pre .1 .1 .2) (c .before .before .before .before .before .before .before .before .before .before .put-pair .ensures) (c .before .before .before .before .before .before .before .before .before .before .before .before .wide .ensures) (c .before .before .before .before .before .starts .ensures) (c .before .enum-told .given .1)))
     (λ c κs. search needs)
-    (λ c. omega (arith, vars c, variables-most (puzzle (c .before .before .before .before .before .before .before .before .before .before .before .before .before .before .before .before .before .args .words .now)) (c .before .before .before .before .before .before .before .before .before .before .before .before .before .before .before .before .before .args .l) (room-is (c .before .before .before .before .before .before .before .before .before .before .before .before .before .before .before .before .before) .few) (size-within _ (line-fine _ (c .before .before .before .before .before .before .before .before .before .before .before .before .before .before .before .before .before .pre .0) _ (c .before .before .before .before .before .before .before .before .before .before .before .before .before .before .before .before .before .pre .1 .1 .0) .sized))))
+    (λ c. omega (arith, vars c, line-vars (puzzle (c .before .before .before .before .before .before .before .before .before .before .before .before .before .before .before .before .before .args .words .now)) (c .before .before .before .before .before .before .before .before .before .before .before .before .before .before .before .before .before .args .l) (room-is (c .before .before .before .before .before .before .before .before .before .before .before .before .before .before .before .before .before) .few) (size-within _ (line-fine _ (c .before .before .before .before .before .before .before .before .before .before .before .before .before .before .before .before .before .pre .0) _ (c .before .before .before .before .before .before .before .before .before .before .before .before .before .before .before .before .before .pre .1 .1 .0) .sized))))
     (λ c. search needs)
     (λ c. let fits = lay-fits _ (c .before .before .before .before .before .before .before .before .before .before .before .before .before .before .before .before .before .pre .0) _ (c .before .before .before .before .before .before .before .before .before .before .before .before .before .before .before .before .before .pre .1 .1 .0) {at = c .before .before .before .before .before .before .before .before .before .before .before .before .before .before .before .before .before .args .at} {first = c .before .before .before .before .before .before .before .before .before .before .before .before .before .before .before .before .before .args .first} (c .before .before .before .before .before .before .before .before .before .before .before .before .before .before .before .before .before .pre .1 .0) (c .before .before .before .before .before .before .before .before .before .before .before .before .before .before .before .before .before .pre .1 .1 .1) _ (c .before .before .before .before .before .before .before .before .before .before .before .before .before .before .before .before .before .pre .1 .1 .2) (c .before .before .before .before .before .before .before .before .before .before .before .put-pair .ensures) (c .before .before .before .before .before .before .before .before .before .before .before .before .before .wide .ensures) (c .before .before .before .before .before .before .starts .ensures) (c .before .before .enum-told .given .1) in (rw (le-ltb _ _ fits) (ap accepted (vars c)), λ f. (_, lay-wrote _ (c .before .before .before .before .before .before .before .before .before .before .before .before .before .before .before .before .before .pre .0) _ (c .before .before .before .before .before .before .before .before .before .before .before .before .before .before .before .before .before .pre .1 .1 .0) {at = c .before .before .before .before .before .before .before .before .before .before .before .before .before .before .before .before .before .args .at} {first = c .before .before .before .before .before .before .before .before .before .before .before .before .before .before .before .before .before .args .first} (c .before .before .before .before .before .before .before .before .before .before .before .before .before .before .before .before .before .pre .1 .0) (c .before .before .before .before .before .before .before .before .before .before .before .before .before .before .before .before .before .pre .1 .1 .1) _ (c .before .before .before .before .before .before .before .before .before .before .before .before .before .before .before .before .before .pre .1 .1 .2) (c .before .before .before .before .before .before .before .before .before .before .before .put-pair .ensures) (c .before .before .before .before .before .before .before .before .before .before .before .before .before .wide .ensures) (c .before .before .before .before .before .before .starts .ensures) (c .before .before .enum-told .given .1)))))
