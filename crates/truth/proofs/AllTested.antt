@@ -7,7 +7,7 @@ use native.Mathlib.Omega.{arith}
 use native.Mathlib.Nat.{add-zero}
 use lib.ListN.{length}
 use Rattle.lists.proofs.Tests.{both, not-false}
-use Rattle.refusals.specs.Verdict.{Verdict, accepted, refuse, andThen, firstOff}
+use Rattle.refusals.specs.Verdict.{Verdict, Checks, accepted, refuse, andThen, firstOff}
 use Rattle.refusals.proofs.Answering.{refuse-accepted}
 use Rattle.sections.specs.Sections.{Clause}
 use Rattle.truth.specs.Truth.{Assignment, clauseTrue, allTrue, Satisfies}
@@ -15,12 +15,12 @@ use Rattle.truth.specs.Tested.{tested}
 
 module _ (β : Assignment) where
   -- before other checks, it does not matter that the test passes at a place
-  pub tested-first : (p : ℕ) (cs : List Clause) (v : Verdict) → andThen (firstOff (λ c. not (clauseTrue β c)) 15 p cs) v ≡ andThen (tested β p cs) v
+  pub tested-first : {A : Type 0} (p : ℕ) (cs : List Clause) (v : Verdict A) → andThen (firstOff (λ c. not (clauseTrue β c)) 15 p cs) v ≡ andThen (tested β p cs) v
   unfolding tested firstOff
   tested-first p [] v = refl
   tested-first p (c ∷ cs) v = same (not (clauseTrue β c)) _ _ (tested-first (p + 1) cs v)
     where
-      same : (b : Bool) (u w : Verdict) → andThen u v ≡ andThen w v → andThen (refuse b 15 p u) v ≡ andThen (refuse b 15 p w) v
+      same : (b : Bool) (u : Checks) (w : Verdict ℕ) → andThen u v ≡ andThen w v → andThen (refuse b 15 p u) v ≡ andThen (refuse b 15 p w) v
       same true u w e = refl
       same false u w e = e
 
