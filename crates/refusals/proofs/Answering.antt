@@ -67,6 +67,9 @@ module _ {a : Answer} {u : Checks} (e : checked a ≡ u) where
     pub handed-on : (v : Checks) → checked a ≡ andThen u v
     handed-on v = e ∙ rw refused-is
 
+    pub refused-fails : passed ≡ u → ⊥
+    refused-fails p = refusal-not why (sym (ap checked r) ∙ e ∙ sym p)
+
   -- and an acceptance goes on to what follows
   module _ {n : ℕ} (r : a ≡ Accepted n) where
     pub accepted-passed : passed ≡ u
@@ -93,6 +96,10 @@ module _ (n : ℕ) where
   pub told-found : (u : Checks) {a : Answer} {m : ℕ} → a ≡ Accepted m → told a ≡ andThen u (accepted n) → m ≡ n
   told-found (accepted x) {a} {m} r e = let f : accepted m ≡ accepted n = sym (ap told r) ∙ e in cc
   told-found (refused k p) {a} {m} r e = let f : accepted m ≡ refused k p = sym (ap told r) ∙ e in let z : _≡_ {A = ℕ} 0 1 = cc in absurd (omega arith)
+
+-- where it is a refusal, what follows from checks that pass does not matter
+pub refused-so : {a : Answer} {why : Refusal} → a ≡ Refused why → (u : Checks) (n : ℕ) → told a ≡ andThen u (accepted n) → {X : Type 0} → (told a ≡ andThen u (accepted n)) × (passed ≡ u → X)
+refused-so r u n t = (t, λ p. absurd (refused-fails (told-checks n u r t) r p))
 
 -- which way a single test went
 pub told-refused : (b : Bool) (k p n : ℕ) {a : Answer} {why : Refusal} → a ≡ Refused why → told a ≡ refuse b k p (accepted n) → (b ≡ true) × (told a ≡ refused k p)
