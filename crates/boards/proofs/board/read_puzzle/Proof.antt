@@ -14,7 +14,8 @@ checked-is : (c : tie.After-known-told2) → (passed ≡ C.puzzleChecks (c .befo
 checked-is c =
     let r = c .before .checked2 .given .1 in
     let t = c .before .before .before .before .before .check-puzzle .ensures .0 in
-    (accepted-passed (told-checks _ _ r t) r, told-found _ _ r t)
+    let u = C.puzzleChecks (c .before .before .before .before .before .before .before .before .before .args .words .now) in
+    (accepted-passed (told-checks _ u r t) r, told-found _ u r t)
 
 pub read-puzzle-spec : {M : Type 1} → statement M
 read-puzzle-spec =
