@@ -502,13 +502,8 @@ impl Text<'_> {
         self.at += bytes.len();
     }
 
-    /// The digits of its tenth first, and then the last, as the library does it.
     fn number(&mut self, n: u32) {
-        if n >= 10 {
-            self.number(n / 10);
-        }
-        self.out[self.at] = b'0' + (n % 10) as u8;
-        self.at += 1;
+        self.at = put_number(n, self.out, self.at);
     }
 
     /// The last digit first, in a loop from the end.
@@ -522,6 +517,15 @@ impl Text<'_> {
     }
 }
 
+/// The digits of its tenth first, and then the last, as the library does it.
+fn put_number(n: u32, out: &mut [u8], mut at: usize) -> usize {
+    if n >= 10 {
+        at = put_number(n / 10, out, at);
+    }
+    out[at] = b'0' + (n % 10) as u8;
+    at + 1
+}
+
 pub fn dimacs(variables: usize, sections: usize, words: &[i32], out: &mut [u8]) -> Answer {
     write(variables, sections, words, out, Text::number)
 }
@@ -530,7 +534,7 @@ pub fn dimacs_by_loop(variables: usize, sections: usize, words: &[i32], out: &mu
     write(variables, sections, words, out, Text::number_by_loop)
 }
 
-fn write(variables: usize, sections: usize, words: &[i32], out: &mut [u8], number: impl Fn(&mut Text, u32)) -> Answer {
+fn write<'a>(variables: usize, sections: usize, words: &[i32], out: &'a mut [u8], number: impl Fn(&mut Text<'a>, u32)) -> Answer {
     if variables > 1_000_000 {
         return refuse(21, 0);
     }
