@@ -11,3 +11,4 @@ pub mod Ranges
 pub mod Reading
 pub mod Rendering
 pub mod SameCells
+pub mod Numbers

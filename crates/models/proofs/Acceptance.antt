@@ -10,10 +10,12 @@ use borrow.Author.Tests.{eq-eqb, le-ltb, eqb-true, ltb-false}
 use Rattle.lists.specs.Each.{tab, sum}
 use Rattle.lists.proofs.Eaches.{length-tab, getD-tab}
 use Rattle.lists.proofs.Tests.{not-false}
-use Rattle.refusals.specs.Verdict.{passed}
+use Rattle.refusals.specs.Verdict.{Checks, accepted, refused, passed, andThen}
 use Rattle.refusals.proofs.Answering.{refuse-accepted, then-accepted, first-accepted}
+use Rattle.refusals.specs.Stops.{Never}
 use Rattle.refusals.proofs.Offending.{none-off, off-none}
-use Rattle.truth.specs.Truth.{Assignment, value}
+use Rattle.refusals.proofs.Never.{accepted-never, refuse-never, then-never, first-never}
+use Rattle.truth.specs.Truth.{Assignment, value, clauseTrue}
 use Rattle.truth.proofs.AllTested.{passed-true, true-passed}
 use Rattle.puzzles.specs.Puzzle.{Puzzle, width, height}
 use Rattle.puzzles.specs.Checks.{puzzle}
@@ -90,3 +92,20 @@ models-accepted ws model h = (accepted-model (puzzle ws) model, λ a. model-acce
 
 pub pictures-shown : PicturesShown
 pictures-shown ws model h e = condition-3 ws h .count .shows (value model) (accepted-model (puzzle ws) model e .1)
+
+-- ---- 16 is never given
+
+-- where what comes before passes, so that the next cannot be refused with it
+passed-never : (m : ℕ) (u v : Checks) → Never m u → (passed ≡ u → Never m v) → Never m (andThen u v)
+passed-never m (accepted x) v h g = g refl
+passed-never m (refused k p) v h g = h
+
+pub model-never : (z : Puzzle) (model : List ℕ) → Never 16 (modelChecks z model)
+unfolding modelChecks
+model-never z model =
+    let β = value model in
+    let cells : passed ≡ clauseChecks β (clauses z) → Never 16 (cellChecks β (firstCell z) (width z * height z) (hues z)) = λ e.
+    rw (one-passes z β (solved-said z β .0 (passed-true β 0 (clauses z) e) .one-color)) (accepted-never 16) in
+    let fourteen = first-never 16 (λ b. ltb 1 b) (λ e. omega arith) 0 model in
+    let fifteen = first-never 16 (λ c. not (clauseTrue β c)) (λ e. omega arith) 0 (clauses z) in
+    refuse-never 16 (then-never 16 (passed-never 16 (clauseChecks β (clauses z)) _ fifteen cells) (valueChecks model) fourteen) (not (eqb (length model) (variables z))) (variables z) (λ e. omega arith)

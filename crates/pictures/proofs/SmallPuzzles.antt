@@ -82,7 +82,7 @@ computed = record {
 
 -- what a grid is read as has it as a picture
 pictured : {w h : ℕ} {grid ws : List ℕ} → Read w h grid ws → Grid (puzzle ws) grid × Picture (puzzle ws) grid
-pictured {w} {h} {grid} R = subst (λ ws. Grid (puzzle ws) grid × Picture (puzzle ws) grid) (R .written) (let P = grids-read w h grid 0 (R .checked) in (P .1, P .2))
+pictured {w} {h} {grid} R = subst (λ ws. Grid (puzzle ws) grid × Picture (puzzle ws) grid) (R .written) (let P = grids-read w h grid (R .checked) in (P .1, P .2))
 
 pub small-pictures : SmallPictures
 small-pictures = record {

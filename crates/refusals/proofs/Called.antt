@@ -1,5 +1,5 @@
 -- What the caller of a call knows by its answer: which of its refusals it was, or that there was room.
-use mathlib.Core.Path.{_≡_, sym, ap, _∙_}
+use mathlib.Core.Path.{_≡_, refl, sym, ap, _∙_}
 use mathlib.Core.List.{List}
 use Prim.Native.Nat.{ℕ, _≤_}
 use native.Mathlib.Nat.{zero-add}
@@ -28,6 +28,14 @@ module _ {A : Type 0} {checks : Checks} {ws out out′ : List A} {a : Answer} (g
     -- and nothing was written
     pub refused-kept : out′ ≡ out
     refused-kept = given .out-is ∙ ap (λ v. kept v ws out) (sym (given .answer-is) ∙ refused-told r)
+
+  -- as a check: 12 comes after the others
+  pub answers-checks : checked a ≡ andThen checks (fits (length out) (length ws))
+  answers-checks = let r : a ≡ a = refl in told-checks (length ws) (andThen checks (fits (length out) (length ws))) r (given .answer-is ∙ then-then checks)
+    where
+      then-then : (u : Checks) → verdict u ws out ≡ andThen (andThen u (fits (length out) (length ws))) (accepted (length ws))
+      then-then (accepted x) = refl
+      then-then (refused k p) = refl
 
   module _ {used : ℕ} (r : a ≡ Accepted used) where
     e : accepted used ≡ verdict checks ws out
