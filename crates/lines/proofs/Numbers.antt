@@ -21,10 +21,13 @@ module _ (m : ℕ) (h : 6 < m) where
   pub clue-never : (n : ℕ) (clue : List ℕ) → Never m (clueChecks n clue)
   unfolding clueChecks
   clue-never n clue =
-      let space = refuse-never m (accepted-never m) (ltb n (minSpace gap (blocks clue))) 0 (λ e. omega arith) in
-      let clues = then-never m space (blockChecks 0 clue) (block-never 0 clue) in
-      let many = refuse-never m clues (ltb 64 (length clue / 2)) 0 (λ e. omega arith) in
-      refuse-never m (refuse-never m many (eqb (length clue % 2) 1) (length clue) (λ e. omega arith)) (offSize n) 0 (λ e. omega arith)
+      refuse-never m
+      (refuse-never m
+      (refuse-never m
+      (then-never m (refuse-never m (accepted-never m) (ltb n (minSpace gap (blocks clue))) 0 (λ e. omega arith)) (blockChecks 0 clue) (block-never 0 clue))
+      (ltb 64 (length clue / 2)) 0 (λ e. omega arith))
+      (eqb (length clue % 2) 1) (length clue) (λ e. omega arith))
+      (offSize n) 0 (λ e. omega arith)
 
 pub bytes-never : (m : ℕ) → (m ≡ 18 → ⊥) → (line : List ℕ) → Never m (byteChecks line)
 bytes-never m h line = first-never m (ltb 31) h 0 line

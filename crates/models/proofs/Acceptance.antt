@@ -106,6 +106,6 @@ model-never z model =
     let β = value model in
     let cells : passed ≡ clauseChecks β (clauses z) → Never 16 (cellChecks β (firstCell z) (width z * height z) (hues z)) = λ e.
     rw (one-passes z β (solved-said z β .0 (passed-true β 0 (clauses z) e) .one-color)) (accepted-never 16) in
-    let fourteen = first-never 16 (λ b. ltb 1 b) (λ e. omega arith) 0 model in
-    let fifteen = first-never 16 (λ c. not (clauseTrue β c)) (λ e. omega arith) 0 (clauses z) in
+    let fourteen = first-never 16 (λ b. ltb 1 b) {k = 14} (λ e. omega arith) 0 model in
+    let fifteen = first-never 16 (λ c. not (clauseTrue β c)) {k = 15} (λ e. omega arith) 0 (clauses z) in
     refuse-never 16 (then-never 16 (passed-never 16 (clauseChecks β (clauses z)) _ fifteen cells) (valueChecks model) fourteen) (not (eqb (length model) (variables z))) (variables z) (λ e. omega arith)

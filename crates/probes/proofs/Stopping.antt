@@ -19,6 +19,10 @@ use Rattle.probes.specs.Probes.{Claim, Probe, readClaim, listed, isColor
 use Rattle.probes.specs.Stops.{ProbePlaces}
 use Rattle.probes.proofs.ProbeReaders.{claim-reader}
 
+-- what is read behind a premise
+abbrev impactsOf : ℕ → ℕ → Claim → ℕ → List ℕ → Walk ℕ Probe
+impactsOf w h p j us = next (listed (readClaim w h) j us) (λ qs k vs. got (record { premise = p; impacts = qs }) k vs)
+
 module _ (O : ℕ → Type 0) (o : (k : ℕ) → (k ≡ 1 → ⊥) → (k ≡ 16 → ⊥) → O k) (w h : ℕ) where
   claim-stopping : Stopping 1 O (readClaim w h)
   unfolding readClaim
@@ -33,16 +37,16 @@ module _ (O : ℕ → Type 0) (o : (k : ℕ) → (k ≡ 1 → ⊥) → (k ≡ 16
   listed-stopping F = counted-stopping 1 O F (λ n. n) (word-stopping 1 O (λ n. false) (o 0 (λ e. omega arith) (λ e. omega arith)))
 
   module _ (K : ℕ) where
-    impacts-stopping : (p : Claim) → Stopping 1 O (λ j us. next (listed (readClaim w h) j us) (λ qs k vs. got (record { premise = p; impacts = qs }) k vs))
+    impacts-stopping : (p : Claim) → Stopping 1 O (impactsOf w h p)
     impacts-stopping p = then-stopping 1 O (listed-stopping claim-stopping) (λ qs. got-stopping 1 O (record { premise = p; impacts = qs }))
 
     -- 19 is at the premise's colour, two words behind its first
     color-stops : (i : ℕ) (ws : List ℕ) (p : Claim) (j : ℕ) (us : List ℕ) → readClaim w h i ws ≡ got p j us → (k q : ℕ)
-        → stopIf (not (isColor K (p .color))) 19 (i + 2) (next (listed (readClaim w h) j us) (λ qs k vs. got (record { premise = p; impacts = qs }) k vs)) ≡ stop k q
+        → stopIf (not (isColor K (p .color))) 19 (i + 2) (impactsOf w h p j us) ≡ stop k q
         → StopsAt 1 O (j + length us) k q
     color-stops i ws p j us g k q e = go (not (isColor K (p .color))) e
       where
-        go : (b : Bool) → stopIf b 19 (i + 2) (next (listed (readClaim w h) j us) (λ qs k vs. got (record { premise = p; impacts = qs }) k vs)) ≡ stop k q → StopsAt 1 O (j + length us) k q
+        go : (b : Bool) → stopIf b 19 (i + 2) (impactsOf w h p j us) ≡ stop k q → StopsAt 1 O (j + length us) k q
         go true e =
             let s = same-stop e in
             inr (rw (← s .0) (o 19 (λ e. omega arith) (λ e. omega arith)), omega (arith, s .1, claim-reader w h .only i ws p j us g .place-is))
