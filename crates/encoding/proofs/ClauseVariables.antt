@@ -30,7 +30,7 @@ use Rattle.cells.specs.declared.rule.Rule as D
 use Rattle.cells.specs.declared.rule.Rule.the-variants.{Color, Space}
 use Rattle.cells.proofs.CoveringPositions.{covering-every}
 use Rattle.counts.specs.Families.{families}
-use Rattle.dimacs.proofs.Readers.{IsLiteral, FineSection}
+use Rattle.formulas.proofs.Readers.{IsLiteral, FineSection}
 
 -- ---- clauses of the variables of a puzzle
 

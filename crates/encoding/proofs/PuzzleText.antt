@@ -21,9 +21,9 @@ use Rattle.puzzles.proofs.Accepting.{accepted-is}
 use Rattle.numbering.specs.Variables.{variables}
 use Rattle.numbering.proofs.Bounds.{variables-most}
 use Rattle.counts.specs.Families.{families, clauses, buffer, countsOf}
-use Rattle.dimacs.specs.Walk.{wordChecks, clausesOf}
+use Rattle.formulas.specs.Walk.{wordChecks, clausesOf}
 use Rattle.dimacs.specs.Text.{text}
-use Rattle.dimacs.proofs.Accepting.{words-accepted, words-hold}
+use Rattle.formulas.proofs.Accepting.{words-accepted, words-hold}
 use Rattle.encoding.specs.Encode.{textOf, wordsChecks}
 use Rattle.lists.proofs.Fronts.{front-size, front-is}
 use Rattle.encoding.proofs.ClauseVariables.{families-fine}
