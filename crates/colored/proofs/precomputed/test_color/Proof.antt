@@ -14,6 +14,7 @@ test-color-spec =
     (λ c κs. search needs)
     (λ c κs. search needs)
     (λ c κs. search needs)
+    (λ c κs. search needs)
     (λ c κs. unit-room _ _ _ (solved-blank (c .before .before .before .before .before .before .before .args .mask) _ _ (sym (c .before .before .before .before .solved .ensures) ∙ c .before .before .before .if1 .taken) (sym (c .before .before .has2 .ensures) ∙ c .before .if2 .taken)) (c .before .before .before .before .before .before .before .pre .1))
     (λ c. unit-negative _ _ _ _ (c .test-one .result) (c .test-one .ensures) (solved-blank (c .before .before .before .before .before .before .before .before .args .mask) _ _ (sym (c .before .before .before .before .before .solved .ensures) ∙ c .before .before .before .before .if1 .taken) (sym (c .before .before .before .has2 .ensures) ∙ c .before .before .if2 .taken)) (c .before .before .before .before .before .before .before .before .pre .0 .0) (ap not (c .before .on .ensures)))
     (λ c κs. search needs)

@@ -13,6 +13,7 @@ precomputed-color-spec =
     (λ c κs. search needs)
     (λ c κs. search needs)
     (λ c κs. search needs)
+    (λ c κs. search needs)
     (λ c κs. unit-room _ _ (solved-blank (c .before .before .before .before .before .before .before .args .mask) _ _ (sym (c .before .before .before .before .before .solved .ensures) ∙ c .before .before .before .before .if1 .taken) (sym (c .before .before .before .has2 .ensures) ∙ c .before .before .if2 .taken)) _ _ (c .before .before .before .before .before .before .before .pre .1))
     (λ c. search needs)
     (λ c. unit-wrote _ _ (solved-blank (c .before .before .before .before .before .before .before .before .before .args .mask) _ _ (sym (c .before .before .before .before .before .before .before .solved .ensures) ∙ c .before .before .before .before .before .before .if1 .taken) (sym (c .before .before .before .before .before .has2 .ensures) ∙ c .before .before .before .before .if2 .taken)) (word-is (c .before .before .before .no .result) (c .before .before .before .no .ok) ∙ c .before .before .before .no .ensures) (c .before .put-one .ensures))
