@@ -8,10 +8,10 @@ use lib.IntN.{ℤ}
 use lib.ListN.{length, getD}
 use Rattle.lists.specs.Each.{each, tab}
 use Rattle.lists.specs.Wrote.{Wrote}
-use Rattle.lists.proofs.Emitting.{Emitting}
+use Rattle.lists.proofs.Emitting.{Emitting, EmittingFrom}
 use Rattle.literals.specs.Literals.{largest}
 use Rattle.sections.specs.Sections.{Clause, clausesWords, atLeastOne, atMostOne}
-use Rattle.sections.proofs.ClauseLists.{say-first, say-done}
+use Rattle.sections.proofs.ClauseLists.{say-first, say-done, say-from, say-from-done}
 use Rattle.lines.specs.Clue.{gap}
 use Rattle.lines.specs.Arrangement.{at}
 use Rattle.lines.proofs.Moving.{distance-is}
@@ -20,7 +20,6 @@ use Rattle.numbering.specs.Tables.{Sound, lineOf}
 use Rattle.numbering.proofs.SoundLines.{sound-shared, sound-some, sound-least, sound-most, sound-within, sound-apart, of-many, of-run, of-first, of-positions}
 use Rattle.placement.specs.Placement.{blockPositions, blockOnce, nonOverlap}
 use Rattle.placement.specs.PairRows.{apart, rowsFrom, laterRows}
-use Rattle.placement.proofs.LateLoops.{EmittingFrom, say-from, say-from-done}
 use Rattle.placement.proofs.RowLaw.{non-overlap-later}
 
 -- the n variables from v on are some
