@@ -15,7 +15,7 @@ use Rattle.puzzles.specs.Checks.{colors}
 use Rattle.puzzles.specs.Good.{Good}
 use Rattle.numbering.specs.Variables.{Line, many, hues, palette}
 use Rattle.numbering.specs.Tables.{Sound}
-use Rattle.numbering.proofs.SoundLines.{sound-shared, sound-some, sound-distance, sound-sizes}
+use Rattle.numbering.proofs.SoundLines.{sound-shared, sound-some, sound-meets, sound-sizes}
 use Rattle.numbering.proofs.Bounds.{line-sound, hues-most, cells-most}
 use Rattle.numbering.proofs.Palettes.{palette-most}
 use Rattle.counts.specs.Formulas.{onceIn, overlapPair, overlapAt, overlapIn, spaceIn, measured, overLines, pointCount, excluded, unitsBy, unitCount}
@@ -57,7 +57,7 @@ module _ {L : Line} (S : Sound L) where
   overlap-most : overlapIn L ≤ 4193280
   unfolding overlapIn overlapAt overlapPair sumPairs
   overlap-most =
-      omega (arith, pairs-below (many L) 2080 _ (λ a b h l. pair-most _ (sound-distance S a b h l)), mul-le-mul-left 2080 (pairs-most (many L) 64 few))
+      omega (arith, pairs-below (many L) 2080 _ (λ a b h l. pair-most _ (sound-meets S a b h l .some)), mul-le-mul-left 2080 (pairs-most (many L) 64 few))
     where
       few : many L ≤ 64
       few = omega (arith, sound-shared S, sound-some S)
