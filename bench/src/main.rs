@@ -13,6 +13,7 @@ use std::{
 };
 
 type Answer = Result<usize, Refusal>;
+type Dimacs = fn(usize, usize, &[i32], &mut [u8]) -> Answer;
 
 const SIZES: [usize; 3] = [5, 25, 64];
 const COLORS: [usize; 3] = [1, 4, 31];
@@ -113,7 +114,7 @@ impl Row {
     }
 }
 
-fn compare(board: &Board) -> [Row; 4] {
+fn compare(board: &Board) -> [Row; 5] {
     let size = board.size;
     let grid = &board.grid[..];
     let model = &board.model()[..];
@@ -122,6 +123,7 @@ fn compare(board: &Board) -> [Row; 4] {
     let puzzle = room(|out| lent::read_grid(size, size, grid, out), |out| plain::read_grid(size, size, grid, out));
     let words = room(|out| lent::clauses(&puzzle, out), |out| plain::clauses(&puzzle, out));
     let text = room(|out| lent::dimacs(model.len(), 10, &words, out), |out| plain::dimacs(model.len(), 10, &words, out));
+    assert_eq!(text, room(|out| lent::dimacs(model.len(), 10, &words, out), |out| plain::dimacs_by_loop(model.len(), 10, &words, out)));
     let shown = room(|out| lent::check_model(&puzzle, model, out), |out| plain::check_model(&puzzle, model, out));
     assert_eq!(shown, grid);
     same_refusals(size, grid, &puzzle, &words, model, &text);
@@ -159,17 +161,20 @@ fn compare(board: &Board) -> [Row; 4] {
     ]);
     let checked = Row { entry: "check_model", times, unit: "clause", units: clauses };
 
-    let (mut out, mut other) = (text.clone(), text.clone());
-    let times = measure([
-        Way::new(|| lent::dimacs(model.len(), 10, black_box(&words), black_box(&mut out))),
-        Way::new(|| {
-            their_text.clear();
-            rust::dimacs(black_box(&formula), black_box(&mut their_text))
-        }),
-        Way::new(|| plain::dimacs(model.len(), 10, black_box(&words), black_box(&mut other))),
-        Way::new(copying::<u8>(text.len())),
-    ]);
-    let written = Row { entry: "dimacs", times, unit: "byte", units: text.len() };
+    // Beside plain Rust whose number writer calls itself too, and beside a loop of digits, which shows what that costs.
+    let [written, looped] = [("dimacs", plain::dimacs as Dimacs), ("dimacs loop", plain::dimacs_by_loop)].map(|(entry, plain)| {
+        let (mut out, mut other) = (text.clone(), text.clone());
+        let times = measure([
+            Way::new(|| lent::dimacs(model.len(), 10, black_box(&words), black_box(&mut out))),
+            Way::new(|| {
+                their_text.clear();
+                rust::dimacs(black_box(&formula), black_box(&mut their_text))
+            }),
+            Way::new(|| plain(model.len(), 10, black_box(&words), black_box(&mut other))),
+            Way::new(copying::<u8>(text.len())),
+        ]);
+        Row { entry, times, unit: "byte", units: text.len() }
+    });
 
     let (mut out, mut other) = (puzzle.clone(), puzzle.clone());
     let times = measure([
@@ -180,7 +185,7 @@ fn compare(board: &Board) -> [Row; 4] {
     ]);
     let read = Row { entry: "read_grid", times, unit: "cell", units: grid.len() };
 
-    let rows = [made, checked, written, read];
+    let rows = [made, checked, written, looped, read];
     let sizes = format!("{size:>2}x{size:<2} | {:>2} | {clauses:>7} | {:>8}", board.colors().len(), words.len());
     rows.iter().for_each(|row| row.print(&sizes));
     rows
@@ -228,10 +233,17 @@ fn main() {
     let boards = SIZES.into_iter().flat_map(|size| COLORS.map(|colors| Board::paint(size, colors)));
     let rows: Vec<Row> = boards.flat_map(|board| compare(&board)).collect();
     println!();
-    for (entry, goal) in [("clauses", " (goal 5)"), ("check_model", " (goal 5)"), ("dimacs", ""), ("read_grid", " (goal 5)")] {
+    let goals = [
+        ("clauses", " (goal 5)", " (goal 1.2)"),
+        ("check_model", " (goal 5)", " (goal 1.2)"),
+        ("dimacs", "", " (goal 1.2)"),
+        ("dimacs loop", "", ""),
+        ("read_grid", " (goal 5)", " (goal 1.2)"),
+    ];
+    for (entry, to_rust, to_plain) in goals {
         let ratios = || rows.iter().filter(|row| row.entry == entry).map(Row::ratios);
         let least = ratios().map(|[to_a, ..]| to_a).fold(f64::MAX, f64::min);
         let most = ratios().map(|[_, to_b, _]| to_b).fold(0.0, f64::max);
-        println!("{entry:<11} a/lib is {least:.1} at least{goal}, lib/b {most:.2} at most (goal 1.2)");
+        println!("{entry:<11} a/lib is {least:.1} at least{to_rust}, lib/b {most:.2} at most{to_plain}");
     }
 }

@@ -502,7 +502,12 @@ impl Text<'_> {
         self.at += bytes.len();
     }
 
-    fn number(&mut self, mut n: u32) {
+    fn number(&mut self, n: u32) {
+        self.at = put_number(n, self.out, self.at);
+    }
+
+    /// The last digit first, in a loop from the end.
+    fn number_by_loop(&mut self, mut n: u32) {
         let end = self.at + digits(n);
         for byte in self.out[self.at..end].iter_mut().rev() {
             *byte = b'0' + (n % 10) as u8;
@@ -512,7 +517,24 @@ impl Text<'_> {
     }
 }
 
+/// The digits of its tenth first, and then the last, as the library does it.
+fn put_number(n: u32, out: &mut [u8], mut at: usize) -> usize {
+    if n >= 10 {
+        at = put_number(n / 10, out, at);
+    }
+    out[at] = b'0' + (n % 10) as u8;
+    at + 1
+}
+
 pub fn dimacs(variables: usize, sections: usize, words: &[i32], out: &mut [u8]) -> Answer {
+    write(variables, sections, words, out, Text::number)
+}
+
+pub fn dimacs_by_loop(variables: usize, sections: usize, words: &[i32], out: &mut [u8]) -> Answer {
+    write(variables, sections, words, out, Text::number_by_loop)
+}
+
+fn write<'a>(variables: usize, sections: usize, words: &[i32], out: &'a mut [u8], number: impl Fn(&mut Text<'a>, u32)) -> Answer {
     if variables > 1_000_000 {
         return refuse(21, 0);
     }
@@ -529,9 +551,9 @@ pub fn dimacs(variables: usize, sections: usize, words: &[i32], out: &mut [u8]) 
     }
     let mut text = Text { out, at: 0 };
     text.bytes(b"p cnf ");
-    text.number(variables as u32);
+    number(&mut text, variables as u32);
     text.bytes(b" ");
-    text.number(clauses as u32);
+    number(&mut text, clauses as u32);
     text.bytes(b"\n");
     let mut rest = words;
     while let Some((&clauses, mut section)) = rest.split_first() {
@@ -541,7 +563,7 @@ pub fn dimacs(variables: usize, sections: usize, words: &[i32], out: &mut [u8]) 
                 if literal < 0 {
                     text.bytes(b"-");
                 }
-                text.number(literal.unsigned_abs());
+                number(&mut text, literal.unsigned_abs());
                 text.bytes(b" ");
             }
             text.bytes(b"0\n");

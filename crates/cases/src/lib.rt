@@ -1,5 +1,4 @@
-// The language of stored cases: an entry's name, numbers and repeats; and answers as they are shown.
+// The language of stored cases: an entry's name, numbers and repeats.
 pub mod entry;
 pub mod number;
-pub mod show;
 pub mod text;

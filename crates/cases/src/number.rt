@@ -1,5 +1,6 @@
 // Numbers of one type as another.
 ghost use Prim.Native.Nat.{_≤_};
+ghost use lib.ListN.{length};
 
 pub fn at_most(n: usize, most: usize) -> usize
     ensures { λ r. ⌜ r ≤ most ⌝ }
@@ -11,23 +12,19 @@ pub fn index(n: u32) -> usize {
     n as usize
 }
 
-pub fn wide(n: u32) -> u64 {
-    n as u64
-}
-
-pub fn byte(n: u8) -> u64 {
-    n as u64
-}
-
-// A negative number -m is HALF + m; no other number is so large.
-pub const HALF: u64 = 9223372036854775808;
-
-pub fn signed(n: i32) -> u64 {
-    let m = n as i64;
-    if n < 0 { HALF + (-m) as u64 } else { m as u64 }
-}
-
 // The lowest 32 bits.
 pub fn low(n: usize) -> u32 {
     (n % 4294967296) as u32
+}
+
+pub fn as_bytes(words: &[u32], out: &mut [u8]) -> usize
+    ensures { λ r. ⌜ r ≤ length (now (out .entry)) ⌝ }
+{
+    for i in 0..words.len() {
+        if out.len() <= i {
+            return i;
+        }
+        out[i] = (words[i] % 256) as u8;
+    }
+    words.len()
 }

@@ -1,2 +1,4 @@
 pub mod Tails
 pub mod Asked
+pub mod ClauseVariables
+pub mod BufferWords

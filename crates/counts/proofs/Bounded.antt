@@ -3,6 +3,7 @@ use mathlib.Core.Path.{_≡_, ap, _∙_}
 use mathlib.Core.Bool.{Bool, true, false, cond}
 use Prim.Native.Nat.{ℕ, suc, _+_, _-_, _*_, _/_, _≤_, _<_}
 use native.Mathlib.Omega.{arith}
+use native.Mathlib.Decide.{decLt}
 use native.Mathlib.Nat.{mul-le-mul-right, mul-le-mul-left, mul-comm, mul-one}
 use lib.ListN.{length, getD}
 use Rattle.lists.specs.Each.{sum, sumPairs}
@@ -18,7 +19,7 @@ use Rattle.numbering.specs.Tables.{Sound}
 use Rattle.numbering.proofs.SoundLines.{sound-shared, sound-some, sound-meets, sound-sizes}
 use Rattle.numbering.proofs.Bounds.{line-sound, hues-most, cells-most}
 use Rattle.numbering.proofs.Palettes.{palette-most}
-use Rattle.counts.specs.Formulas.{onceIn, overlapPair, overlapAt, overlapIn, spaceIn, measured, overLines, pointCount, excluded, unitsBy, unitCount}
+use Rattle.counts.specs.Formulas.{onceIn, overlapPair, overlapIn, spaceIn, measured, overLines, pointCount, excluded, unitsBy, unitCount}
 use Rattle.counts.specs.declared.measure.Measure.{Measure}
 use Rattle.counts.specs.declared.measure.Measure.the-variants.{Blocks, Once, Overlap, Space}
 use Rattle.counts.proofs.Triangles.{pairs-count}
@@ -38,6 +39,18 @@ pairs-below n m f h =
     sum-below n _ _ (λ a i. omega (arith, sum-most (n - suc a) m (λ j. f a (suc a + j)) (λ j k. h a (suc a + j) (omega arith) (omega arith)), sum-constant (n - suc a) 1, mul-comm m (n - suc a), ap (λ (k : ℕ). m * k) (sum-constant (n - suc a) 1 ∙ mul-one (n - suc a)))) in
     omega (arith, below, sum-times n m (λ a. sum (n - suc a) (λ j. 1)), ap (λ (k : ℕ). m * k) (unfold sumPairs in pairs-count n))
 
+-- of a line with at most m positions
+module _ {L : Line} (S : Sound L) (m : ℕ) (most : L .positions ≤ m) where
+  pair-below : (d : ℕ) → 0 < d → (L .positions - d) * (L .positions - d + 1) / 2 ≤ m * (m - 1) / 2
+  pair-below d h =
+      let n = L .positions - d + 1 in
+      let e : n - 1 ≡ L .positions - d = omega arith in
+      omega (arith, rw e at (pairs-most n m (omega (arith, sound-some S))), mul-comm (L .positions - d) (L .positions - d + 1))
+
+  overlap-below : overlapIn L ≤ m * (m - 1) / 2 * (many L * (many L - 1) / 2)
+  unfolding overlapIn overlapPair
+  overlap-below = pairs-below (many L) (m * (m - 1) / 2) _ (λ a b h l. pair-below _ (sound-meets S a b h l .some))
+
 module _ {L : Line} (S : Sound L) where
   once-most : onceIn L ≤ 133120
   unfolding onceIn
@@ -49,18 +62,14 @@ module _ {L : Line} (S : Sound L) where
 
   -- of a block pair
   pub pair-most : (d : ℕ) → 0 < d → (L .positions - d) * (L .positions - d + 1) / 2 ≤ 2080
-  pair-most d h =
-      let n = L .positions - d + 1 in
-      let e : n - 1 ≡ L .positions - d = omega arith in
-      omega (arith, rw e at (pairs-most n 65 (omega (arith, sound-shared S))), mul-comm (L .positions - d) (L .positions - d + 1))
+  pair-most d h = omega (arith, pair-below S 65 (omega (arith, sound-shared S)) d h)
 
-  overlap-most : overlapIn L ≤ 4193280
-  unfolding overlapIn overlapAt overlapPair sumPairs
-  overlap-most =
-      omega (arith, pairs-below (many L) 2080 _ (λ a b h l. pair-most _ (sound-meets S a b h l .some)), mul-le-mul-left 2080 (pairs-most (many L) 64 few))
-    where
-      few : many L ≤ 64
-      few = omega (arith, sound-shared S, sound-some S)
+  -- many blocks have few positions
+  overlap-most : overlapIn L ≤ 1031680
+  overlap-most = elim (decLt (many L) 33) [
+    | yes h ↦ omega (arith, overlap-below S 65 (omega (arith, sound-shared S)), mul-le-mul-left 2080 (pairs-most (many L) 32 (omega arith)))
+    | no h ↦ omega (arith, overlap-below S 32 (omega (arith, sound-shared S)), mul-le-mul-left 496 (pairs-most (many L) 64 (omega (arith, sound-shared S, sound-some S))))
+  ]
 
   pub space-most : spaceIn L ≤ 4160
   unfolding spaceIn
@@ -74,11 +83,11 @@ module _ {L : Line} (S : Sound L) where
 abbrev pub most : Measure → ℕ
 most Blocks = 64
 most Once = 133120
-most Overlap = 4193280
+most Overlap = 1031680
 most Space = 4160
 
 -- every count of a line is small
-pub most-most : (m : Measure) → most m ≤ 4193280
+pub most-most : (m : Measure) → most m ≤ 1031680
 most-most Blocks = omega arith
 most-most Once = omega arith
 most-most Overlap = omega arith

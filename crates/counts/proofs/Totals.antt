@@ -106,8 +106,8 @@ module _ (z : Puzzle) where
       pub rows-positions : length (ofRows z Positions) ≤ 4096
       pub columns-once : length (ofColumns z Once) ≤ 8519680
       pub rows-once : length (ofRows z Once) ≤ 8519680
-      pub columns-overlap : length (ofColumns z Overlap) ≤ 268369920
-      pub rows-overlap : length (ofRows z Overlap) ≤ 268369920
+      pub columns-overlap : length (ofColumns z Overlap) ≤ 66027520
+      pub rows-overlap : length (ofRows z Overlap) ≤ 66027520
       pub color : length (ofCells z Color) ≤ 253952
       pub space : length (ofCells z Space) ≤ 532480
       pub point : length (pointOnce z) ≤ 1904640
@@ -136,6 +136,10 @@ module _ (z : Puzzle) where
       where
         cells-hues : width z * height z * hues z ≤ 126976
         cells-hues = omega (arith, mul-le-mul-right (hues z) (cells-most z G), hues-most z)
+
+    -- 21 lets as many words through
+    pub buffer-most : length (buffer z) ≤ 1073741824
+    buffer-most = omega (arith, words-all, literals-all refl, counts-small, cells-first z G .0)
 
 -- ---- the numbers of the code
 
@@ -190,7 +194,7 @@ module _ (z : Puzzle) (G : Good z) {b : Board} (S : Stands b z) where
   -- the sums stay small
   pub record SmallSums (columns rows : Side) (cells : Cells) : Type 0 where
     pub positions : columns .positions + rows .positions ≤ 8192
-    pub twos : columns .once + rows .once + columns .overlap + rows .overlap + cells .space + cells .point ≤ 556216320
+    pub twos : columns .once + rows .once + columns .overlap + rows .overlap + cells .space + cells .point ≤ 151531520
     pub color : cells .color ≤ 253952
     pub space : cells .space ≤ 532480
     pub units : cells .units ≤ 126976

@@ -13,7 +13,7 @@ use Rattle.lists.proofs.Writing.{Filling, fill-first, fill-next, fill-room, fil
 use Rattle.literals.specs.Literals.{IsVariable, variable, isNegative}
 use Rattle.sections.specs.Sections.{Clause}
 use Rattle.dimacs.specs.Text.{digit, digits, space, newline, literalText, clauseText}
-use Rattle.dimacs.specs.Lines.{AreVariables}
+use Rattle.formulas.specs.Clauses.{AreVariables}
 use Rattle.dimacs.proofs.NumberText.{digits-most}
 
 -- ---- a literal

@@ -1,9 +1,6 @@
 pub mod NumberText
 pub mod PutDigits
-pub mod Readers
 pub mod ReadBack
 pub mod ClauseLines
 pub mod HeaderLine
-pub mod Ahead
 pub mod LineLoops
-pub mod Accepting

@@ -1,6 +1,6 @@
--- The digits of a number: one, two, those of its tenth and then the last, or those of its hundredth and then the last two. They are digit bytes with no leading zero, and say the number.
+-- The digits of a number: one, or those of its tenth and then the last. They are digit bytes with no leading zero, and say the number.
 use mathlib.Core.Path.{_≡_, refl}
-use mathlib.Core.List.{List, [], _∷_, _++_, append-assoc}
+use mathlib.Core.List.{List, [], _∷_, _++_}
 use Prim.Native.Nat.{ℕ, zero, suc, _+_, _-_, _*_, _/_, _%_, _^_, _≤_, _<_}
 use native.Mathlib.Omega.{arith}
 use native.Mathlib.Nat.{div-add-mod, mod-lt, pow-suc, one-le-pow}
@@ -55,27 +55,6 @@ digits-one n h = rw (lt-ltb n 10 h)
 pub digits-more : (n : ℕ) → 10 ≤ n → digits n ≡ digits (n / 10) ++ (digit (n % 10) ∷ [])
 unfolding digits digitsWithin
 digits-more n h = rw (le-ltb n 10 h, within-same n (suc (n / 10)) (n / 10) (tens n .falls h) (omega arith))
-
--- the last two
-abbrev pub pair : ℕ → List ℕ
-pair n = digit (n / 10) ∷ digit (n % 10) ∷ []
-
-pub digits-two : (n : ℕ) → 10 ≤ n → n < 100 → digits n ≡ pair n
-digits-two n h l =
-    let t : n / 10 < 10 = omega (arith, tens n .whole) in
-    rw (digits-more n h, digits-one (n / 10) t)
-
-pub digits-hundred : (n : ℕ) → 100 ≤ n → digits n ≡ digits (n / 100) ++ pair (n % 100)
-digits-hundred n h =
-    let a = tens n in
-    let b = tens (n / 10) in
-    let c = tens (n % 100) in
-    let w = div-add-mod n 100 in
-    let l = mod-lt n {m = 100} (omega arith) in
-    let q : n / 10 / 10 ≡ n / 100 = omega (arith, a .whole, a .last, b .whole, b .last) in
-    let d : (n / 10) % 10 ≡ n % 100 / 10 = omega (arith, a .whole, a .last, b .whole, b .last, c .whole, c .last) in
-    let e : n % 10 ≡ n % 100 % 10 = omega (arith, a .whole, a .last, b .whole, b .last, c .whole, c .last) in
-    rw (digits-more n (omega arith), digits-more (n / 10) (omega (arith, a .whole, a .last)), append-assoc, q, d, e)
 
 -- ---- how many
 

@@ -1,4 +1,3 @@
-pub mod Walk
 pub mod Text
 pub mod Reading
-pub mod Lines
+pub mod Sizes

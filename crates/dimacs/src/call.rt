@@ -1,55 +1,25 @@
 // The call `dimacs`: clause words of any kind, written as text.
 use crate::count::count_header;
 use crate::count::count_lines;
-use crate::read::read_sections;
 use crate::write::put_header;
 use crate::write::put_lines;
-use literals::Literal;
+use formulas::check::check_words;
 use refusals::Answer;
 use refusals::Refusal;
 ghost use mathlib.Core.Path.{_≡_};
 ghost use Prim.Native.Nat.{_≤_};
 ghost use lib.ListN.{length};
 ghost use Rattle.lists.specs.Wrote.{Wrote};
-ghost use Rattle.refusals.specs.Told.{told};
 ghost use Rattle.refusals.specs.Outcome.{Answers};
 ghost use Rattle.refusals.specs.Verdict.{accepted};
-ghost use Rattle.dimacs.specs.Walk.{wordChecks, clausesOf};
+ghost use Rattle.formulas.specs.Walk.{wordChecks, clausesOf};
+ghost use Rattle.formulas.specs.Clauses.{Formed, clausesIn};
 ghost use Rattle.dimacs.specs.Text.{text};
-ghost use Rattle.dimacs.specs.Lines.{Formed, linesOf};
-
-// The most that the call takes.
-const SECTIONS: usize = 16;
-
-const WORDS: usize = 1_073_741_824;
-
-// The limits, then the walk.
-fn check_words(variables: usize, sections: usize, words: &[i32]) -> Answer
-    ensures { λ r. ⌜ told r ≡ wordChecks variables sections (now (words .entry)) ⌝ }
-{
-    if (Literal::LARGEST as usize) < variables {
-        return Answer::Refused(Refusal::DimacsLimit(0));
-    }
-    if SECTIONS < sections {
-        return Answer::Refused(Refusal::DimacsLimit(1));
-    }
-    if WORDS < words.len() {
-        return Answer::Refused(Refusal::DimacsLimit(2));
-    }
-    let read = read_sections(variables as u32, sections, words, 0);
-    let Answer::Accepted(end) = read else {
-        return read;
-    };
-    if end < words.len() {
-        return Answer::Refused(Refusal::ClauseWords(end));
-    }
-    Answer::Accepted(end)
-}
 
 // The first line, and a line per clause.
 fn put_text(variables: usize, clauses: usize, words: &[i32], out: &mut [u8]) -> usize
-    requires { ⌜ Formed (now words) × (clauses ≡ length (linesOf (now words))) × (length (text variables (linesOf (now words))) ≤ length (now out)) ⌝ }
-    ensures { λ r. ⌜ Wrote (text variables (linesOf (now (words .entry)))) (now (out .entry)) 0 (now (out .exit)) r ⌝ }
+    requires { ⌜ Formed (now words) × (clauses ≡ length (clausesIn (now words))) × (length (text variables (clausesIn (now words))) ≤ length (now out)) ⌝ }
+    ensures { λ r. ⌜ Wrote (text variables (clausesIn (now (words .entry)))) (now (out .entry)) 0 (now (out .exit)) r ⌝ }
 {
     let at = put_header(variables, clauses, out);
     put_lines(words, out, at)
@@ -58,7 +28,7 @@ fn put_text(variables: usize, clauses: usize, words: &[i32], out: &mut [u8]) -> 
 // The text, where there is room.
 fn write_text(variables: usize, words: &[i32], out: &mut [u8]) -> Answer
     requires { ⌜ Formed (now words) ⌝ }
-    ensures { λ r. ⌜ Answers (accepted 0) (text variables (linesOf (now (words .entry)))) (now (out .entry)) r (now (out .exit)) ⌝ }
+    ensures { λ r. ⌜ Answers (accepted 0) (text variables (clausesIn (now (words .entry)))) (now (out .entry)) r (now (out .exit)) ⌝ }
 {
     let size = count_lines(words);
     let need = count_header(variables, size.clauses) + size.bytes;

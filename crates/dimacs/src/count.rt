@@ -1,13 +1,14 @@
 // How many clauses accepted words hold, and how many bytes their text has.
 use crate::digits::count_digits;
-use crate::word::count;
+use formulas::word::count;
 use lists::wide;
 use literals::Literal;
 ghost use mathlib.Core.Path.{_≡_};
 ghost use Prim.Native.Nat.{_≤_};
 ghost use lib.ListN.{length};
+ghost use Rattle.formulas.specs.Clauses.{AreVariables, Formed, clausesIn};
 ghost use Rattle.dimacs.specs.Text.{literalText, clauseText, header};
-ghost use Rattle.dimacs.specs.Lines.{AreVariables, Formed, linesOf, Sized};
+ghost use Rattle.dimacs.specs.Sizes.{Sized};
 
 // Of the lines behind the first.
 pub struct Size {
@@ -40,7 +41,7 @@ fn count_clause(clause: &[i32]) -> usize
 // Where a section has no clause left, the next word counts those of another.
 pub fn count_lines(words: &[i32]) -> Size
     requires { ⌜ Formed (now words) ⌝ }
-    ensures { λ r. ⌜ Sized (linesOf (now (words .entry))) r ⌝ }
+    ensures { λ r. ⌜ Sized (clausesIn (now (words .entry))) r ⌝ }
 {
     let mut clauses = 0;
     let mut bytes = 0;

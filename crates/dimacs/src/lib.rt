@@ -2,6 +2,4 @@
 pub mod call;
 mod count;
 pub mod digits;
-mod read;
-mod word;
 mod write;

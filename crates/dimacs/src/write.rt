@@ -1,13 +1,13 @@
 // The text of accepted words.
 use crate::digits::put_number;
-use crate::word::count;
+use formulas::word::count;
 use lists::wide;
 use literals::Literal;
 ghost use Prim.Native.Nat.{_+_, _≤_};
 ghost use lib.ListN.{length};
 ghost use Rattle.lists.specs.Wrote.{Wrote};
+ghost use Rattle.formulas.specs.Clauses.{AreVariables, Formed, clausesIn};
 ghost use Rattle.dimacs.specs.Text.{literalText, clauseText, clausesText, header};
-ghost use Rattle.dimacs.specs.Lines.{AreVariables, Formed, linesOf};
 
 // Its sign and its variable.
 fn put_literal(l: Literal, out: &mut [u8], at: usize) -> usize
@@ -39,8 +39,8 @@ fn put_clause(clause: &[i32], out: &mut [u8], at: usize) -> usize
 
 // The walk of `count_lines`.
 pub fn put_lines(words: &[i32], out: &mut [u8], at: usize) -> usize
-    requires { ⌜ Formed (now words) × (at + length (clausesText (linesOf (now words))) ≤ length (now out)) ⌝ }
-    ensures { λ r. ⌜ Wrote (clausesText (linesOf (now (words .entry)))) (now (out .entry)) at (now (out .exit)) r ⌝ }
+    requires { ⌜ Formed (now words) × (at + length (clausesText (clausesIn (now words))) ≤ length (now out)) ⌝ }
+    ensures { λ r. ⌜ Wrote (clausesText (clausesIn (now (words .entry)))) (now (out .entry)) at (now (out .exit)) r ⌝ }
 {
     let mut to = at;
     let mut left = 0;

@@ -1,4 +1,3 @@
-pub mod ClauseVariables
 pub mod InputWords
 pub mod RefusedLine
 pub mod PuzzleText

@@ -14,31 +14,16 @@ use Rattle.refusals.specs.declared.Refusal.{Refusal}
 use Rattle.refusals.specs.declared.Answer.{Answer}
 use Rattle.refusals.specs.declared.Answer.the-variants.{Accepted, Refused}
 use Rattle.refusals.proofs.Answering.{handed-up, answers-checked}
-use Rattle.puzzles.specs.Puzzle.{Puzzle}
-use Rattle.puzzles.specs.Good.{Good}
 use Rattle.puzzles.specs.Checks.{puzzle, puzzleChecks}
 use Rattle.puzzles.proofs.Accepting.{accepted-is}
 use Rattle.numbering.specs.Variables.{variables}
-use Rattle.numbering.proofs.Bounds.{variables-most}
-use Rattle.counts.specs.Families.{families, clauses, buffer, countsOf}
-use Rattle.dimacs.specs.Walk.{wordChecks, clausesOf}
+use Rattle.counts.specs.Families.{families, buffer, countsOf}
+use Rattle.clauses.proofs.BufferWords.{buffer-accepted, buffer-holds}
+use Rattle.formulas.specs.Walk.{wordChecks, clausesOf}
 use Rattle.dimacs.specs.Text.{text}
-use Rattle.dimacs.proofs.Accepting.{words-accepted, words-hold}
 use Rattle.encoding.specs.Encode.{textOf, wordsChecks}
 use Rattle.lists.proofs.Fronts.{front-size, front-is}
-use Rattle.encoding.proofs.ClauseVariables.{families-fine}
 use Rattle.refusals.proofs.Called.{refused-by, accepted-checks, accepted-room, accepted-wrote}
-
-module _ (z : Puzzle) (G : Good z) (few : length (buffer z) ≤ 16384) where
-  ten : length (families z) ≡ 10
-  unfolding families
-  ten = refl
-
-  buffer-accepted : accepted (length (buffer z)) ≡ wordChecks (variables z) 10 (buffer z)
-  buffer-accepted = words-accepted (variables z) 10 (families z) (omega (arith, variables-most z G)) (omega arith) (omega arith) ten (families-fine z G)
-
-  buffer-holds : clausesOf (variables z) 10 (buffer z) ≡ clauses z
-  buffer-holds = words-hold (variables z) 10 (families z) (omega (arith, variables-most z G)) (omega arith) (omega arith) ten (families-fine z G)
 
 module _ (ws : List ℕ) where
   -- ---- the call `counts`
@@ -76,6 +61,6 @@ module _ (ws : List ℕ) where
           let z = puzzle ws in
           let e = accepted-checks given r .1 in
           let G = accepted-is ws e .good in
-          let y : Answers (accepted (length (buffer z))) (textOf z) _ _ _ = rw (v-is, front-is (accepted-wrote given r), ← buffer-accepted z G few, buffer-holds z G few) at x in
+          let y : Answers (accepted (length (buffer z))) (textOf z) _ _ _ = rw (v-is, front-is (accepted-wrote given r), ← buffer-accepted z G, buffer-holds z G) at x in
           let c : accepted (length (buffer z)) ≡ wordsChecks ws = rw (← e, le-ltb _ _ few) in
           answers-checked _ _ c y

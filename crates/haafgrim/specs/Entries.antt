@@ -16,7 +16,7 @@ use Rattle.pictures.specs.Pictures.{shown, blocking}
 use Rattle.models.specs.Models.{modelChecks}
 use Rattle.probes.specs.Probes.{probeChecks, probes}
 use Rattle.probes.specs.Implications.{implications}
-use Rattle.dimacs.specs.Walk.{wordChecks, clausesOf}
+use Rattle.formulas.specs.Walk.{wordChecks, clausesOf}
 use Rattle.dimacs.specs.Text.{text}
 
 -- a number, a place, and the buffer afterwards

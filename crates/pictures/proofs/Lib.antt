@@ -3,6 +3,7 @@ pub mod TrueClauses
 pub mod EachFamily
 pub mod ColorsOfK
 pub mod NineFollows
+pub mod NoOther
 pub mod Masks
 pub mod LineArranged
 pub mod LineReads

@@ -25,6 +25,7 @@ use Rattle.pictures.proofs.ShownGrid.{shown-is-grid, shown-extends, ext
 use Rattle.pictures.proofs.Pictured.{said-picture, picture-said}
 use Rattle.pictures.proofs.Determined.{same-everywhere}
 use Rattle.pictures.proofs.Blocked.{blocking-differs, differs-blocking}
+use Rattle.pictures.proofs.NoOther.{no-other, exactly-one}
 
 -- bytes of 0 and 1 are those of their truth
 same-byte : (a b : ℕ) → a ≤ 1 → b ≤ 1 → eqb a 1 ≡ eqb b 1 → a ≡ b
@@ -101,5 +102,13 @@ module _ (z : Puzzle) (G : Good z) where
 -- of every puzzle whose words are accepted
 pub condition-3 : Condition3
 condition-3 ws n e =
+    let z = puzzle ws in
     let G = accepted-is ws e .good in
-    record { picture = picture-is (puzzle ws) G; unique = unique (puzzle ws) G; blocked = blocked (puzzle ws) G; count = one-to-one (puzzle ws) G }
+    record {
+      picture = picture-is z G;
+      unique = unique z G;
+      blocked = blocked z G;
+      count = one-to-one z G;
+      no-other = no-other z (blocked z G);
+      exactly-one = exactly-one z (blocked z G) (one-to-one z G);
+    }

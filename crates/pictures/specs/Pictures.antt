@@ -6,7 +6,7 @@ use mathlib.Core.List.{List, [], _∷_, _++_, map}
 use Prim.Native.Nat.{ℕ, suc, _+_, _*_, _≤_, _<_}
 use lib.Dec.{eqb}
 use lib.ListN.{length, getD}
-use Rattle.lists.specs.Each.{each, tab, when}
+use Rattle.lists.specs.Each.{each, tab, when, Every}
 use Rattle.refusals.specs.Verdict.{accepted}
 use Rattle.literals.specs.Literals.{negative}
 use Rattle.bits.specs.Bits.{bit}
@@ -108,11 +108,35 @@ pub record OneToOne (z : Puzzle) : Type 0 where
   -- and each picture is shown
   pub all : (grid : List ℕ) → Grid z grid → Picture z grid → (m : List ℕ) × Model z m × Solves z (value m) × (shown z (value m) ≡ grid)
 
+-- models that satisfy the ten families
+abbrev pub Solutions : Puzzle → List (List ℕ) → Type 0
+Solutions z ms = Every [] (λ m. Model z m × Solves z (value m)) ms
+
+-- with their blocking clauses the ten families have no satisfying assignment
+abbrev pub Exhausted : Puzzle → List (List ℕ) → Type 0
+Exhausted z ms = (β : Assignment) → Satisfies β (clauses z ++ map (λ m. blocking z (value m)) ms) → ⊥
+
+-- No other: then every picture is shown by one of them
+abbrev pub NoOther : Puzzle → Type 0
+NoOther z =
+    (ms : List (List ℕ)) → Solutions z ms → Exhausted z ms
+    → (grid : List ℕ) → Grid z grid → Picture z grid → (i : ℕ) × (i < length ms) × (shown z (value (getD ms i [])) ≡ grid)
+
+-- Exactly one: of one model, there is one picture, the one that it shows
+abbrev pub ExactlyOne : Puzzle → Type 0
+ExactlyOne z =
+    (m : List ℕ) → Model z m → Solves z (value m) → Exhausted z (m ∷ [])
+    → Grid z (shown z (value m)) × Picture z (shown z (value m))
+    × ((grid : List ℕ) → Grid z grid → Picture z grid → shown z (value m) ≡ grid)
+
 pub record Theorem (z : Puzzle) : Type 0 where
   pub picture : PictureIs z
   pub unique : Unique z
   pub blocked : Blocking z
   pub count : OneToOne z
+  -- what a solver's "no" means
+  pub no-other : NoOther z
+  pub exactly-one : ExactlyOne z
 
 -- it holds of every puzzle whose words are accepted
 abbrev pub Condition3 : Type 0

@@ -1,6 +1,7 @@
 -- What computing finds: the rows of document 01's table, and what the right answers are where a fake gives another.
 use mathlib.Core.Path.{_≡_, refl}
 use mathlib.Core.List.{List, [], _∷_, _++_, flatten, flatMap}
+use Prim.Native.Nat.{ℕ}
 use Rattle.literals.specs.Literals.{positive, negative}
 use Rattle.lists.specs.Each.{each, tab, pairs, product, sum}
 use Rattle.lists.specs.Wrote.{over}
@@ -31,11 +32,15 @@ use Rattle.pictures.specs.Examples.{p8, p10, p11, p12, level}
 use Rattle.models.specs.Models.{trues, modelChecks}
 use Rattle.haafgrim.specs.Entries.{Clauses, Counts, CheckModel}
 use Rattle.table.specs.Table.{filled, AllHold, table}
-use Rattle.table.specs.Fakes.{sevens, p11-level, apart, crossed, SlipsRuledOut}
+use Rattle.table.specs.Fakes.{sevens, p11-level, apart, crossed, barred, tall, strange, SlipsRuledOut}
 
 -- what the contract's own functions give is an outcome
 computes : {A : Type 0} {checks : Verdict} {ws out : List A} → Outcome checks ws out (number (verdict checks ws out)) (place (verdict checks ws out)) (kept (verdict checks ws out) ws out)
 computes = record { number-is = refl; place-is = refl; out-is = refl }
+
+-- and whatever number and place it allows are these
+answered : {A : Type 0} {checks : Verdict} {ws out : List A} {n p m q : ℕ} {out₁ out₂ : List A} → Outcome checks ws out n p out₁ → Outcome checks ws out m q out₂ → (n ≡ m) × (p ≡ q)
+answered {ws = ws} {out} a b = let d = outcome-determined ws out a b in (d .0, d .1)
 
 pub record Computed : Type 0 where
   pub rows : AllHold table
@@ -56,7 +61,7 @@ pub record Computed : Type 0 where
 
 pub computed : Computed
 unfolding
-    AllHold table apart crossed over p8 p10 p11 p12 each tab pairs product sum firstOff bit powers withBit
+    AllHold table apart crossed barred tall strange over p8 p10 p11 p12 each tab pairs product sum firstOff bit powers withBit
     words blocks gap packedFrom packed lastEnd minSpace positions ofColor range conflict run runsFrom runs
     blockChecks clueChecks startsWords rangesWords lineChecks lineWords
     clueAt lengthAt withColors withLines colorSet known solved offSolved
@@ -66,7 +71,21 @@ unfolding
     literalTrue clauseTrue allTrue literals colorOf shown blocking trues modelChecks countsOf
 computed = record {
   rows = (computes, (computes, (computes, (computes, (computes, (refl, (refl, (computes, (computes, ((refl, refl, refl, refl), (computes, (computes, tt))))))))))));
-  slips = record { seven = refl; eight = refl; nine = refl; one-conflict = refl; true-cells = λ n p out a. outcome-determined _ _ a computes .2 };
+  slips = record {
+    seven = refl;
+    eight = refl;
+    nine = refl;
+    one-conflict = refl;
+    true-cells = λ n p out a. outcome-determined _ _ a computes .2;
+    first-outer = refl;
+    earlier-outer = refl;
+    ten = refl;
+    row-colors = λ n p out a. answered a computes;
+    last-end = λ n p out a. outcome-determined _ _ a computes .2;
+    length-first = λ n p out a. answered a computes;
+    row-place = λ n p out a. answered a computes;
+    cell-place = λ n p out a. answered a computes;
+  };
   of-p8 = computes;
   of-p10 = computes;
   counts-of-p10 = computes;

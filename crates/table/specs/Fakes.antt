@@ -9,7 +9,7 @@ use Rattle.truth.specs.Truth.{value, Satisfies}
 use Rattle.pictures.specs.Pictures.{Picture, shown}
 use Rattle.pictures.specs.Meaning.{section}
 use Rattle.pictures.specs.Examples.{p8, p10, p11, p11-model, level}
-use Rattle.haafgrim.specs.Entries.{Clauses, Counts, CheckModel, Blocking}
+use Rattle.haafgrim.specs.Entries.{ColorRanges, Clauses, Counts, CheckModel, Blocking}
 use Rattle.table.specs.Table.{filled}
 
 -- what is lent
@@ -26,6 +26,18 @@ apart = 3 ∷ 1 ∷ 1 ∷ 1 ∷ 1 ∷ 1 ∷ 2 ∷ 0 ∷ 1 ∷ 2 ∷ 1 ∷ 1 ∷ 
 unfoldable pub crossed : List ℕ
 crossed = 2 ∷ 1 ∷ 1 ∷ 1 ∷ 1 ∷ 1 ∷ 2 ∷ 2 ∷ 1 ∷ 1 ∷ 1 ∷ 1 ∷ 1 ∷ 2 ∷ 4 ∷ 7 ∷ 7 ∷ 7 ∷ 7 ∷ []
 
+-- the same, but the second cell excludes colour 1 and the third colour 2
+unfoldable pub barred : List ℕ
+barred = 2 ∷ 1 ∷ 1 ∷ 1 ∷ 1 ∷ 1 ∷ 2 ∷ 2 ∷ 1 ∷ 1 ∷ 1 ∷ 1 ∷ 1 ∷ 2 ∷ 4 ∷ 7 ∷ 5 ∷ 3 ∷ 7 ∷ []
+
+-- width 1, height 6, column (1,1) (1,1), rows none, masks 3: each block has 4 positions
+unfoldable pub tall : List ℕ
+tall = 1 ∷ 2 ∷ 1 ∷ 1 ∷ 1 ∷ 1 ∷ 6 ∷ 0 ∷ 0 ∷ 0 ∷ 0 ∷ 0 ∷ 0 ∷ 6 ∷ 3 ∷ 3 ∷ 3 ∷ 3 ∷ 3 ∷ 3 ∷ []
+
+-- width 2, height 1, columns (1,1) and (1,2), row (1,1), masks 3
+unfoldable pub strange : List ℕ
+strange = 2 ∷ 1 ∷ 1 ∷ 1 ∷ 1 ∷ 1 ∷ 2 ∷ 1 ∷ 1 ∷ 1 ∷ 1 ∷ 2 ∷ 3 ∷ 3 ∷ []
+
 pub record SlipsRuledOut : Type 0 where
   -- sections 7 to 9 take cells column by column: of P11, variables 9, 11, 10, 12
   pub seven : section (puzzle p11) 7
@@ -40,6 +52,23 @@ pub record SlipsRuledOut : Type 0 where
   pub one-conflict : section (puzzle apart) 6 ≡ (negative 4 ∷ negative 5 ∷ []) ∷ []
   -- a blocking clause names true cells, and no other cell or block
   pub true-cells : (n p : ℕ) (out : List ℤ) → Blocking p11 p11-model (sevens 3) n p out → out ≡ positive 2 ∷ negative 9 ∷ negative 12 ∷ []
+  -- pairs first outer: of four positions, and of those of two blocks
+  pub first-outer : section (puzzle tall) 3
+      ≡ (negative 1 ∷ negative 2 ∷ []) ∷ (negative 1 ∷ negative 3 ∷ []) ∷ (negative 1 ∷ negative 4 ∷ []) ∷ (negative 2 ∷ negative 3 ∷ []) ∷ (negative 2 ∷ negative 4 ∷ []) ∷ (negative 3 ∷ negative 4 ∷ [])
+      ∷ (negative 5 ∷ negative 6 ∷ []) ∷ (negative 5 ∷ negative 7 ∷ []) ∷ (negative 5 ∷ negative 8 ∷ []) ∷ (negative 6 ∷ negative 7 ∷ []) ∷ (negative 6 ∷ negative 8 ∷ []) ∷ (negative 7 ∷ negative 8 ∷ []) ∷ []
+  pub earlier-outer : section (puzzle tall) 5
+      ≡ (negative 2 ∷ negative 5 ∷ []) ∷ (negative 3 ∷ negative 5 ∷ []) ∷ (negative 3 ∷ negative 6 ∷ []) ∷ (negative 4 ∷ negative 5 ∷ []) ∷ (negative 4 ∷ negative 6 ∷ []) ∷ (negative 4 ∷ negative 7 ∷ []) ∷ []
+  -- section 10 row by row: of the second cell and then of the third
+  pub ten : section (puzzle barred) 10 ≡ (negative 11 ∷ []) ∷ (negative 14 ∷ []) ∷ []
+  -- K is of the rows alone
+  pub row-colors : (n p : ℕ) (out : List ℤ) → Clauses strange [] n p out → (n ≡ 9) × (p ≡ 1)
+  -- a colour's range ends with its last block
+  pub last-end : (n p : ℕ) (out : List ℕ) → ColorRanges 4 (1 ∷ 1 ∷ 1 ∷ 1 ∷ []) (filled 62 7) n p out → out ≡ 0 ∷ 4 ∷ filled 60 0
+  -- 13 before 14, at V
+  pub length-first : (n p : ℕ) (out : List ℕ) → CheckModel p8 (2 ∷ 1 ∷ []) (7 ∷ []) n p out → (n ≡ 13) × (p ≡ 3)
+  -- places count from the front of all words: P8 with a row's block of size 0, and with mask 0
+  pub row-place : (n p : ℕ) (out : List ℤ) → Clauses (1 ∷ 1 ∷ 1 ∷ 1 ∷ 1 ∷ 1 ∷ 0 ∷ 1 ∷ 1 ∷ 3 ∷ []) [] n p out → (n ≡ 4) × (p ≡ 6)
+  pub cell-place : (n p : ℕ) (out : List ℤ) → Clauses (1 ∷ 1 ∷ 1 ∷ 1 ∷ 1 ∷ 1 ∷ 1 ∷ 1 ∷ 1 ∷ 0 ∷ []) [] n p out → (n ≡ 8) × (p ≡ 9)
 
 -- ---- fakes
 

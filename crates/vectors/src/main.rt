@@ -1,10 +1,6 @@
 // Answers the cases of standard input: a line is an entry's name and its numbers, and what the entry says of them comes after it.
 // What must come out is stored, so that every number, place and word is compared, those that must stay untouched too.
 mod call;
-mod dimacs;
-mod encode;
-mod model;
-mod puzzle;
 
 use cases::entry::named;
 use cases::text::find;

@@ -32,13 +32,13 @@ pub +count-digits-spec : {M : Type 1} → statement M
 )
     (count-digits-at t)
     count-digits.Post
-    (λ c. one-long _ (c .if2 .taken))
-    (λ c. digits-long 1 _ (c .before .if2 .left) (c .if3 .taken))
-    (λ c. digits-long 2 _ (c .if3 .left) (c .before .before .if1 .taken))
-    (λ c. digits-long 3 _ (c .before .if1 .left) (c .if4 .taken))
+    (λ c. one-long _ (c .if1 .taken))
+    (λ c. digits-long 1 _ (c .before .if1 .left) (c .if2 .taken))
+    (λ c. digits-long 2 _ (c .before .if2 .left) (c .if3 .taken))
+    (λ c. digits-long 3 _ (c .before .if3 .left) (c .if4 .taken))
     (λ c. digits-long 4 _ (c .before .if4 .left) (c .if5 .taken))
     (λ c. digits-long 5 _ (c .before .if5 .left) (c .if6 .taken))
-    (λ c κs. let n = c .before .before .before .before .args .n in
-    (rw (← (c .before .before .before .before .pre .0)) (tens n .falls (omega arith)), tt))
-    (λ c. omega (arith, c .count-digits .ensures, digits-few (c .before .before .before .before .before .args .n / 10) (omega arith)))
-    (λ c. omega (arith, c .count-digits .ensures, more-long (c .before .before .before .before .before .args .n) (omega arith)))
+    (λ c κs. let b = c .before .before .before .before .before .before in
+    (rw (← (b .pre .0)) (tens (b .args .n) .falls (omega arith)), tt))
+    (λ c. omega (arith, c .count-digits .ensures, digits-few (c .before .before .before .before .before .before .before .args .n / 10) (omega arith)))
+    (λ c. omega (arith, c .count-digits .ensures, more-long (c .before .before .before .before .before .before .before .args .n) (omega arith)))

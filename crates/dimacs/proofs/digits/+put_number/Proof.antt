@@ -1,17 +1,14 @@
-use native.Mathlib.Omega.{arith}
-use mathlib.Core.List.{[], _∷_}
-use Rattle.dimacs.specs.Text.{digit, digits}
-use Rattle.dimacs.proofs.PutDigits.{first-room, last-room, more-wrote}
-use Rattle.dimacs.proofs.NumberText.{tens, digits-more}
 use borrow.Author.Needs.{needs}
-use Prim.Native.Nat.{ℕ, _/_, _%_, _<_}
+use native.Mathlib.Omega.{arith}
+use Rattle.dimacs.proofs.NumberText.{tens}
+use Rattle.dimacs.proofs.PutDigits.{one-room, one-wrote, tenth-room, last-room, last-wrote}
+use Prim.Native.Nat.{ℕ, _<_}
 use borrow.Fn.Kinds.{In}
 use borrow.Fn.PlainCycle.{Measures, is, falls, and}
 use Rattle.dimacs.proofs.digits.put_number.Reads as put-number
 use Rattle.dimacs.proofs.digits.put_number.Kinds as put-number-kinds
 use Rattle.dimacs.proofs.digits.+put_number.Lts-put_number as put-number-lts
-use Rattle.dimacs.proofs.digits.put_four.Reads as put-four-reads
-use Rattle.dimacs.proofs.digits.put_last.Reads as put-last-reads
+use Rattle.dimacs.proofs.digits.digit.Reads as digit-reads
 use Rattle.dimacs.proofs.digits.+put_number.{statement}
 use Rattle.dimacs.proofs.digits.+put_number.Tie.{close}
 
@@ -27,37 +24,39 @@ put-number-below t =
     and 1 put-number-kinds.ps (falls 1 put-number-kinds.ps _<_ μ-put-number t) put-number.Pre
 
 -- on its own, so that an edit of the order is refused here too
-returns-more : (t : ℕ) → put-number-lts.Need-returns (
+returns-last : (t : ℕ) → put-number-lts.Need-returns (
   put-number-below t,
   put-number.Post,
-  put-last-reads.Asked,
-  put-last-reads.Learnt,
-  put-four-reads.Asked,
-  put-four-reads.Learnt,
+  digit-reads.Asked,
+  digit-reads.Learnt,
 ) (put-number-at t) put-number.Post
-returns-more t c = more-wrote (c .before .before .before .before .before .before .before .before .before .before .args .n) (omega arith) _ _ (c .before .before .before .before .before .before .before .before .before .before .pre .1) (c .before .before .before .before .before .before .put-number .ensures) (c .before .before .put-last .ensures)
+returns-last t c =
+    let b = c .before .before .before .before .before .before .before in
+    last-wrote (b .args .n) (b .args .out .now) _ (b .pre .1) (omega arith) (c .before .before .before .put-number .ensures) (c .digit .ensures)
 
 pub +put-number-spec : {M : Type 1} → statement M
 +put-number-spec = close μ-put-number λ t. put-number-lts.spec (
   put-number-below t,
   put-number.Post,
-  put-last-reads.Asked,
-  put-last-reads.Learnt,
-  put-four-reads.Asked,
-  put-four-reads.Learnt,
+  digit-reads.Asked,
+  digit-reads.Learnt,
 )
     (put-number-at t)
     put-number.Post
-    (λ c κs. let n = c .before .before .before .args .n in
-    (rw (← (c .before .before .before .pre .0)) (tens n .falls (omega arith)), first-room n (digits (n / 10)) (digit (n % 10) ∷ []) (digits-more n (omega arith)) (c .before .before .before .args .out .now) _ (c .before .before .before .pre .1)))
-    (λ c κs. last-room (c .before .before .before .before .before .before .before .args .n) (omega arith) _ _ (c .before .before .before .before .before .before .before .pre .1) (c .before .before .before .put-number .ensures))
+    (λ c κs. let b = c .before .before .before in
+    (rw (← (b .pre .0)) (tens (b .args .n) .falls (omega arith)), tenth-room (b .args .n) (b .args .out .now) _ (b .pre .1) (omega arith)))
+    (λ c κs. tens (c .before .before .before .before .before .before .args .n) .last)
+    (λ c. let b = c .before .before .before .before .before .before .before in
+    last-room (b .args .n) (b .args .out .now) _ (b .pre .1) (omega arith) (c .before .before .before .put-number .ensures))
+    (λ c. let b = c .before .before .before .before .before .before .before in
+    omega (arith, last-room (b .args .n) (b .args .out .now) (b .args .at) (b .pre .1) (omega arith) (c .before .before .before .put-number .ensures)))
     (λ c. search needs)
-    (returns-more t)
-    (λ c κs. let n = c .before .before .before .before .args .n in
-    (omega (arith, tens n .whole), first-room n (digits (n / 10)) (digit (n % 10) ∷ []) (digits-more n (omega arith)) (c .before .before .before .before .args .out .now) _ (c .before .before .before .before .pre .1)))
-    (λ c κs. last-room (c .before .before .before .before .before .before .before .before .args .n) (omega arith) _ _ (c .before .before .before .before .before .before .before .before .pre .1) (c .before .before .before .put-four .ensures))
+    (returns-last t)
+    (λ c κs. search needs)
+    (λ c. let b = c .before .before .before in
+    one-room (b .args .n) (b .args .out .now) _ (b .pre .1) (omega arith))
+    (λ c. let b = c .before .before .before in
+    omega (arith, one-room (b .args .n) (b .args .out .now) (b .args .at) (b .pre .1) (omega arith)))
     (λ c. search needs)
-    (λ c. more-wrote (c .before .before .before .before .before .before .before .before .before .before .before .args .n) (omega arith) _ _ (c .before .before .before .before .before .before .before .before .before .before .before .pre .1) (c .before .before .before .before .before .before .put-four .ensures) (c .before .before .put-last2 .ensures))
-    (λ c κs. (c .before .if2 .left, c .before .before .before .before .pre .1))
-    (λ c. search needs)
-    (λ c. c .before .before .put-four2 .ensures)
+    (λ c. let b = c .before .before .before in
+    one-wrote (b .args .n) (b .args .out .now) _ (b .pre .1) (omega arith) (c .digit2 .ensures))

@@ -2,7 +2,7 @@ use native.Mathlib.Omega.{arith}
 use Prim.Native.Nat.{_-_}
 use lib.ListN.{length}
 use Rattle.literals.proofs.Words.{word-is}
-use Rattle.dimacs.proofs.Ahead.{Line, ahead-count, ahead-line}
+use Rattle.formulas.proofs.Ahead.{ClauseAhead, ahead-count, ahead-clause}
 use Rattle.dimacs.proofs.LineLoops.{LinesFilling, lines-first, lines-kept, lines-section, line-room, lines-next, lines-wrote}
 use borrow.Author.Needs.{needs}
 use Rattle.dimacs.proofs.write.put_lines.Statement.{statement}
@@ -15,8 +15,8 @@ abbrev μ-loop : tie.MeasureT-loop
 μ-loop words out₀ at to₀ left₀ i₀ out to left i = length words - i
 
 -- the clause that a turn finds
-line : (c : tie.Else1 Inv-loop μ-loop) → Line (c .before .before .before .before .before .before .args .words .now) (c .before .before .before .before .loop .i) (c .before .before .before .before .loop .left) (c .before .before .before .before .loop .inv .rest) (c .before .count .result)
-line c = ahead-line (c .before .before .before .before .loop .inv .ahead) (c .before .before .before .loop-test .taken) (word-is _ (c .before .before .count-arg .given)) (c .before .count .ensures) (c .if1 .left)
+line : (c : tie.Else1 Inv-loop μ-loop) → ClauseAhead (c .before .before .before .before .before .before .args .words .now) (c .before .before .before .before .loop .i) (c .before .before .before .before .loop .left) (c .before .before .before .before .loop .inv .rest) (c .before .count .result)
+line c = ahead-clause (c .before .before .before .before .loop .inv .ahead) (c .before .before .before .loop-test .taken) (word-is _ (c .before .before .count-arg .given)) (c .before .count .ensures) (c .if1 .left)
 
 pub put-lines-spec : {M : Type 1} → statement M
 put-lines-spec =

@@ -1,0 +1,3 @@
+// Stored cases of what is no entry: the reading of a puzzle, and the program as a function.
+pub mod encode;
+pub mod puzzle;
