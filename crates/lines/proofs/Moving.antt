@@ -42,6 +42,13 @@ pub conflict-other : (c e d s : ℕ) → (c ≡ d → ⊥) → conflict gap c e 
 unfolding conflict gap
 conflict-other c e d s h = rw (ne-eqb c d h, add-zero)
 
+-- two runs of different colours that cover one cell are in conflict
+pub covers-clash : (r q : Run) (t : ℕ) → (r .color ≡ q .color → ⊥) → covers r t ≡ true → covers q t ≡ true → clash gap r q ≡ true
+covers-clash r q t other a b =
+    let u = covers-is r t a in
+    let v = covers-is q t b in
+    conflict-other (r .color) (end r) (q .color) (q .start) other ∙ lt-ltb (q .start) (end r) (omega arith)
+
 -- no conflict, in numbers
 pub clear-is : (g : ℕ → ℕ → ℕ) (r q : Run) → clash g r q ≡ false → end r + g (r .color) (q .color) ≤ q .start
 unfolding conflict
