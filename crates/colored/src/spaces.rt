@@ -1,4 +1,5 @@
-// Family 8 of a line: a cell that is covered has the colour. Each position is tested where it is found.
+// Family 8 of a cell: where a position of a colour covers it, the cell has the colour. Each position is tested where it is found.
+use crate::side::pick;
 use boards::table::clue_end;
 use lines::meet::Run;
 use lines::meet::behind;
@@ -11,6 +12,7 @@ ghost use mathlib.Core.Path.{_≡_};
 ghost use mathlib.Core.Bool.{cond, _&&_};
 ghost use Prim.Native.Nat.{ℕ, _+_, _≤_, _<_};
 ghost use lib.ListN.{length};
+ghost use Rattle.lists.specs.Each.{each};
 ghost use Rattle.lines.specs.Clue.{end};
 ghost use Rattle.lines.specs.Runs.{run};
 ghost use Rattle.puzzles.specs.Puzzle as P;
@@ -23,6 +25,7 @@ ghost use Rattle.cells.specs.Cells.{covering, ruled};
 ghost use Rattle.cells.specs.Found.{coveringBlock};
 ghost use Rattle.cells.specs.declared.rule.Rule.the-variants.{Space};
 ghost use Rattle.colored.specs.Models.{Of, LineOf};
+ghost use Rattle.colored.specs.Sides.{ofSide};
 
 // 1 for a position that counts, and else 0: they are counted with no branch.
 fn one(counts: bool) -> usize
@@ -103,7 +106,7 @@ fn test_blocks(
 }
 
 // Of line l and its cell t.
-pub fn test_spaces(
+fn test_line(
     words: &[u32],
     table: &[u32],
     l: usize,
@@ -130,4 +133,34 @@ pub fn test_spaces(
         model,
         at,
     )
+}
+
+// Of column x and of the row's line, whose cells are y and x.
+pub fn test_spaces(
+    words: &[u32],
+    table: &[u32],
+    x: usize,
+    row: usize,
+    y: usize,
+    color: u32,
+    v: usize,
+    model: &[u8],
+    at: usize,
+) -> Tested
+    requires { ⌜ Ready (now words) (now table) ⌝ }
+    requires { ⌜ (x < P.lines (puzzle (now words))) × (row < P.lines (puzzle (now words))) × (length (now model) ≡ variables (puzzle (now words))) × Of (now model) v ⌝ }
+    requires { ⌜ Countable at (each 2 (ofSide (puzzle (now words)) Space color v x row y)) ⌝ }
+    ensures { λ r. ⌜ said r ≡ tested (value (now (model .entry))) at (each 2 (ofSide (puzzle (now (words .entry))) Space color v x row y)) ⌝ }
+{
+    let mut to = at;
+    for side in 0..2 {
+        let l = pick(side, x, row);
+        let t = pick(side, y, x);
+        let line = test_line(words, table, l, t, color, v, model, to);
+        let Tested::Fine(next) = line else {
+            return line;
+        };
+        to = next;
+    }
+    Tested::Fine(to)
 }
