@@ -1,6 +1,6 @@
 -- The powers of a mask, lowest first, by halving: the mask minus one takes the lowest off, the set bits count them, and joined they are the mask, which its bits thus determine.
 use mathlib.Core.Path.{_≡_, refl, sym, ap, ap₂, _∙_}
-use mathlib.Core.Bool.{true}
+use mathlib.Core.Bool.{true, false}
 use mathlib.Core.List.{List, [], _∷_, _++_, foldl}
 use mathlib.Core.Logic.{_⊎_, inl, inr, ⊎-elim}
 use Prim.Native.Nat.{ℕ, zero, suc, _+_, _-_, _*_, _/_, _%_, _^_, _<_}
@@ -8,14 +8,16 @@ use native.Mathlib.Omega.{arith}
 use native.Mathlib.Numerals.{one-add}
 use native.Mathlib.Nat.{add-zero, zero-add, add-suc, suc-add, add-mul, one-mul, mul-one, mul-assoc, pow-suc, pow-succ'}
 use lib.Arith.{lt-one}
-use lib.Bits.{bitAnd, bitOr, and-step, and-self, or-shifted-r}
+use lib.Bits.{bitAnd, bitOr, and-step, and-self, and-le-l, or-shifted-r}
 use lib.Count.{ones, ones-step, ones-le}
+use lib.Dec.{eqb}
 use lib.ListN.{length}
+use borrow.Author.Tests.{ne-eqb}
 use Rattle.lists.specs.Each.{each, when}
 use Rattle.lists.proofs.Eaches.{each-plus, each-same}
 use Rattle.lists.proofs.Tests.{same-tests}
 use Rattle.lists.proofs.Writing.{Filling, fill-as}
-use Rattle.bits.specs.Bits.{bit, powers, joined}
+use Rattle.bits.specs.Bits.{bit, powers, joined, solved}
 use Rattle.bits.proofs.SetBits.{bit-low, bit-half}
 
 -- the number without its lowest set bit
@@ -138,6 +140,22 @@ module _ (x : ℕ) (h : x < 2 ^ 32) where
   pub joined-powers : joined (powers x) ≡ x
   unfolding joined
   joined-powers = rw (powers-raised x) (raised-joined 32 0 x 0 h (omega arith) ∙ omega (arith, mul-one x))
+
+-- a mask is solved where without its lowest bit nothing is left
+none-left : (y : ℕ) → y < 2 ^ 32 → eqb y 0 ≡ eqb (suc (length (powers y))) 1
+none-left zero h = rw powers-done
+none-left (suc y) h =
+    let more = powers-next (suc y) h (omega arith) in
+    ne-eqb (suc y) 0 (λ e. omega arith) ∙ sym (ne-eqb (suc (length (powers (suc y)))) 1 (λ e. omega (arith, e, ap length more)))
+
+module _ (x : ℕ) (h : x < 2 ^ 32) where
+  pub solved-none : x ≡ 0 → false ≡ solved x
+  unfolding solved
+  solved-none e = rw (e, powers-done)
+
+  pub solved-alone : 0 < x → eqb (without x) 0 ≡ solved x
+  unfolding solved
+  solved-alone p = none-left (without x) (omega (arith, and-le-l x (x - 1))) ∙ rw (powers-next x h p)
 
 -- masks with the same bits are equal
 pub same-bits : (x y : ℕ) → x < 2 ^ 32 → y < 2 ^ 32 → ((k : ℕ) → k < 32 → bit x k ≡ true → bit y k ≡ true) → ((k : ℕ) → k < 32 → bit y k ≡ true → bit x k ≡ true) → x ≡ y

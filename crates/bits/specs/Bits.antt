@@ -4,6 +4,7 @@ use mathlib.Core.List.{List, [], _∷_, foldl}
 use Prim.Native.Nat.{ℕ, _/_, _%_, _^_}
 use lib.Bits.{bitOr}
 use lib.Dec.{eqb, ltb}
+use lib.ListN.{length}
 use Rattle.lists.specs.Each.{each, when}
 
 -- bit k is set
@@ -21,3 +22,7 @@ joined words = foldl bitOr 0 words
 -- the mask with bit k set; a mask has no bit from 32 on
 unfoldable pub withBit : ℕ → ℕ → ℕ
 withBit mask k = cond (ltb k 32) (bitOr mask (2 ^ k)) mask
+
+-- one bit set: solved
+unfoldable pub solved : ℕ → Bool
+solved mask = eqb (length (powers mask)) 1

@@ -1,7 +1,7 @@
-// One bit of a mask, by shifts and tests. A mask has no bit from 32 on, and a shift stays below 32.
+// A mask by shifts and tests. It has no bit from 32 on, and a shift stays below 32.
 ghost use mathlib.Core.Path.{_≡_};
 ghost use Prim.Native.Nat.{_≤_};
-ghost use Rattle.bits.specs.Bits.{bit, withBit};
+ghost use Rattle.bits.specs.Bits.{bit, withBit, solved};
 
 // Is bit k set?
 pub fn has(mask: u32, k: u32) -> bool
@@ -29,4 +29,14 @@ pub fn with(mask: u32, k: u32) -> u32
         return mask;
     }
     set(mask, k)
+}
+
+// Whether one bit is set: a mask by the number minus one drops the lowest, and none is left.
+pub fn solved(mask: u32) -> bool
+    ensures { λ r. ⌜ r ≡ solved mask ⌝ }
+{
+    if mask == 0 {
+        return false;
+    }
+    mask & (mask - 1) == 0
 }

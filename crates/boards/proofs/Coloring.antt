@@ -5,17 +5,15 @@ use mathlib.Core.List.{List, []}
 use Prim.Native.Nat.{ℕ, _+_, _-_, _^_, _≤_, _<_}
 use native.Mathlib.Omega.{arith}
 use lib.Bits.{bitAnd, bitOr}
-use lib.Count.{ones}
 use lib.Dec.{eqb}
 use lib.ListN.{length, drop, getD, drop-of-length-le}
 use borrow.Author.Tests.{eq-eqb, ne-eqb}
 use Rattle.lists.proofs.Dropping.{drop-one}
-use Rattle.bits.specs.Bits.{bit, withBit}
-use Rattle.bits.proofs.LowestFirst.{powers-count}
+use Rattle.bits.specs.Bits.{bit, withBit, solved}
 use Rattle.lines.specs.Clue.{words, blocks}
 use Rattle.lines.proofs.ClueWords.{blocks-next, blocks-done, blocks-words}
 use Rattle.puzzles.specs.Puzzle.{Puzzle, width, height, clueAt}
-use Rattle.puzzles.specs.Colors.{withColors, withLines, colorSet, known, solved, offSolved}
+use Rattle.puzzles.specs.Colors.{withColors, withLines, colorSet, known, offSolved}
 use Rattle.puzzles.proofs.Lines.{clue-column, clue-row}
 
 -- ---- the blocks of a clue
@@ -92,14 +90,14 @@ module _ {z : Puzzle} {all l : ℕ} (J : Joining z all l) where
 
 -- ---- solved cells
 
-module _ (K mask : ℕ) (small : mask < 2 ^ 32) where
-  pub unsolved-not : (ones mask ≡ 1 → ⊥) → false ≡ offSolved K mask
-  unfolding offSolved solved
-  unsolved-not n = rw (powers-count mask small, ne-eqb (ones mask) 1 n)
+module _ (K mask : ℕ) where
+  pub unsolved-not : solved mask ≡ false → false ≡ offSolved K mask
+  unfolding offSolved
+  unsolved-not n = rw n
 
-  pub solved-off : ones mask ≡ 1 → eqb (bitAnd mask (bitOr K 1)) 0 ≡ offSolved K mask
-  unfolding offSolved solved
-  solved-off e = rw (powers-count mask small, eq-eqb (ones mask) 1 e)
+  pub solved-off : solved mask ≡ true → eqb (bitAnd mask (bitOr K 1)) 0 ≡ offSolved K mask
+  unfolding offSolved
+  solved-off e = rw e
 
 pub known-found : (K : ℕ) (z : Puzzle) (l : ℕ) → l < width z → {clue : List ℕ} → clue ≡ words (clueAt z l) → known K (blocks clue) ≡ known K (getD (z .columns) l [])
 known-found K z l h e = rw (e, blocks-words (clueAt z l), clue-column z l h)

@@ -1,6 +1,7 @@
 // The colour set K, as a mask, and the checks against it.
 use crate::table::clue_end;
 use bits::mask::has;
+use bits::mask::solved;
 use bits::mask::with;
 use lists::wide;
 use refusals::Answer;
@@ -82,7 +83,7 @@ pub fn check_columns(words: &[u32], width: usize, colors: u32, table: &[u32]) ->
 fn off_solved(colors: u32, mask: u32) -> bool
     ensures { λ r. ⌜ r ≡ offSolved colors mask ⌝ }
 {
-    if u32::count_ones(mask) != 1 {
+    if !solved(mask) {
         return false;
     }
     mask & (colors | 1) == 0

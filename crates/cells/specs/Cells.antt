@@ -6,11 +6,10 @@ use lib.Dec.{eqb}
 use lib.ListN.{getD}
 use Rattle.lists.specs.Each.{each, when}
 use Rattle.literals.specs.Literals.{positive, negative}
-use Rattle.bits.specs.Bits.{bit}
+use Rattle.bits.specs.Bits.{bit, solved}
 use Rattle.sections.specs.Sections.{Clause, atMostOne}
 use Rattle.lines.specs.Arrangement.{at, covers}
 use Rattle.puzzles.specs.Puzzle.{Puzzle, width, height}
-use Rattle.puzzles.specs.Colors.{solved}
 use Rattle.numbering.specs.Variables.{Line, lineAt, many, placedAt, variable, hues, hue, cellFirst, cellVariable}
 use Rattle.cells.specs.declared.rule.Rule.{Rule}
 use Rattle.cells.specs.declared.rule.Rule.the-variants.{Color, Space}

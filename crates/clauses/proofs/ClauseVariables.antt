@@ -7,7 +7,7 @@ use native.Mathlib.Omega.{arith}
 use lib.IntN.{ℤ, pos}
 use Rattle.lists.specs.Each.{when, pairs, product, Every}
 use Rattle.lists.proofs.Everys.{These, every-more, every-one, every-append, every-each, every-tab, every-when, every-map, every-these}
-use Rattle.bits.specs.Bits.{bit}
+use Rattle.bits.specs.Bits.{bit, solved}
 use Rattle.literals.specs.Literals.{positive, negative}
 use Rattle.literals.proofs.Readings.{made-literal}
 use Rattle.literals.proofs.Signs.{variable-negative}
@@ -16,7 +16,6 @@ use Rattle.lines.specs.Clue.{gap}
 use Rattle.lines.specs.Arrangement.{clash}
 use Rattle.lines.proofs.Packing.{packed-length}
 use Rattle.puzzles.specs.Puzzle.{Puzzle, width, height, lines, clueAt}
-use Rattle.puzzles.specs.Colors.{solved}
 use Rattle.puzzles.specs.Good.{Good}
 use Rattle.numbering.specs.Variables.{lineAt, many, placedAt, firstOf, variable, hues, hue, cellFirst, cellVariable, variables}
 use Rattle.numbering.specs.Names.{position, cell}

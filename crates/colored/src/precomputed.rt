@@ -1,5 +1,6 @@
 // Family 10: unit clauses, by each cell's mask and each colour. Cells row by row.
 use bits::mask::has;
+use bits::mask::solved;
 use boards::board::Board;
 use truth::Tested;
 use truth::on;
@@ -34,7 +35,7 @@ fn test_color(mask: u32, color: u32, v: usize, model: &[u8], at: usize) -> Teste
     ensures { λ r. ⌜ said r ≡ tested (value (now (model .entry))) at (precomputed mask color v) ⌝ }
 {
     let there = has(mask, color);
-    if u32::count_ones(mask) == 1 {
+    if solved(mask) {
         if has(mask, 0) {
             return test_one(!on(model, v), at);
         }

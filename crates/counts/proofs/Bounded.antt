@@ -8,10 +8,9 @@ use native.Mathlib.Nat.{mul-le-mul-right, mul-le-mul-left, mul-comm, mul-one}
 use lib.ListN.{length, getD}
 use Rattle.lists.specs.Each.{sum, sumPairs}
 use Rattle.lists.proofs.Sums.{sum-below, sum-most, sum-times, sum-constant}
-use Rattle.bits.specs.Bits.{bit}
+use Rattle.bits.specs.Bits.{bit, solved}
 use Rattle.lines.specs.Arrangement.{at}
 use Rattle.puzzles.specs.Puzzle.{Puzzle, width, height, lines}
-use Rattle.puzzles.specs.Colors.{solved}
 use Rattle.puzzles.specs.Checks.{colors}
 use Rattle.puzzles.specs.Good.{Good}
 use Rattle.numbering.specs.Variables.{Line, many, hues, palette}

@@ -7,13 +7,12 @@ use lib.ListN.{length, length-append, length-map}
 use Rattle.lists.specs.Each.{when, pairs, product, Every}
 use Rattle.lists.proofs.Everys.{These, every-one, every-append, every-each, every-tab, every-when, every-map, every-these, every-flat}
 use Rattle.literals.specs.Literals.{positive, negative}
-use Rattle.bits.specs.Bits.{bit}
+use Rattle.bits.specs.Bits.{bit, solved}
 use Rattle.sections.specs.Sections.{Clause, atMostOne}
 use Rattle.sections.proofs.Rows.{least-length}
 use Rattle.lines.specs.Clue.{gap}
 use Rattle.lines.specs.Arrangement.{clash}
 use Rattle.puzzles.specs.Puzzle.{Puzzle, width, height, lines}
-use Rattle.puzzles.specs.Colors.{solved}
 use Rattle.puzzles.specs.Good.{Good}
 use Rattle.numbering.specs.Variables.{Line, lineAt, many, placedAt, firstOf, hues, hue, cellVariable}
 use Rattle.numbering.specs.Tables.{Sound}

@@ -16,12 +16,12 @@ use Rattle.lists.proofs.Sums.{sum-both, sum-at, sum-parts, sum-same, sum-below,
 use Rattle.lists.proofs.Parts.{place-within}
 use Rattle.lists.proofs.Tests.{both}
 use Rattle.literals.specs.Literals.{positive, negative}
-use Rattle.bits.specs.Bits.{bit, powers}
+use Rattle.bits.specs.Bits.{bit, powers, solved}
 use Rattle.bits.proofs.SetBits.{bit-and, bit-or, bit-power, bit-some, with-zero, with-within}
 use Rattle.bits.proofs.LowestFirst.{powers-count, same-bits}
 use Rattle.lines.specs.Clue.{Block}
 use Rattle.puzzles.specs.Puzzle.{Puzzle, width, height}
-use Rattle.puzzles.specs.Colors.{withLines, colorSet, solved, offSolved}
+use Rattle.puzzles.specs.Colors.{withLines, colorSet, offSolved}
 use Rattle.puzzles.specs.Checks.{colors}
 use Rattle.puzzles.specs.Good.{Good}
 use Rattle.puzzles.proofs.ColorSets.{set-none, set-some, good-known}
@@ -76,22 +76,22 @@ module _ (K : ℕ) (small : K < 2 ^ 32) (blank : bit K 0 ≡ false) where
       cases false y = refl
 
   -- what is counted of a cell
-  module _ (mask : ℕ) (fits : mask < 2 ^ 32) where
+  module _ (mask : ℕ) where
     pub units-most-ones : ones (bitAnd K mask) ≤ ones K
     units-most-ones = omega (arith, excluded-ones mask)
 
-    pub units-unsolved : (ones mask ≡ 1 → ⊥) → ones K - ones (bitAnd K mask) ≡ unitsBy K mask
-    unfolding unitsBy solved
-    units-unsolved n = rw (powers-count mask fits, ne-eqb (ones mask) 1 n) (omega (arith, excluded-ones mask))
+    pub units-unsolved : solved mask ≡ false → ones K - ones (bitAnd K mask) ≡ unitsBy K mask
+    unfolding unitsBy
+    units-unsolved n = rw n (omega (arith, excluded-ones mask))
 
-    module _ (e : ones mask ≡ 1) where
+    module _ (e : solved mask ≡ true) where
       pub units-blank : bit mask 0 ≡ true → ones K ≡ unitsBy K mask
-      unfolding unitsBy solved
-      units-blank b = rw (powers-count mask fits, eq-eqb (ones mask) 1 e, b) (sym palette-ones)
+      unfolding unitsBy
+      units-blank b = rw (e, b) (sym palette-ones)
 
       pub units-color : bit mask 0 ≡ false → 1 ≡ unitsBy K mask
-      unfolding unitsBy solved
-      units-color b = rw (powers-count mask fits, eq-eqb (ones mask) 1 e, b)
+      unfolding unitsBy
+      units-color b = rw (e, b)
 
 -- ---- of a good puzzle
 

@@ -3,11 +3,10 @@ use mathlib.Core.Bool.{cond}
 use Prim.Native.Nat.{ℕ, suc, _+_, _-_, _*_, _/_}
 use lib.ListN.{length, getD}
 use Rattle.lists.specs.Each.{sum, sumPairs}
-use Rattle.bits.specs.Bits.{bit}
+use Rattle.bits.specs.Bits.{bit, solved}
 use Rattle.lines.specs.Clue.{gap}
 use Rattle.lines.specs.Arrangement.{at, distance}
 use Rattle.puzzles.specs.Puzzle.{Puzzle, width, height, lines}
-use Rattle.puzzles.specs.Colors.{solved}
 use Rattle.puzzles.specs.Checks.{colors}
 use Rattle.numbering.specs.Variables.{Line, lineAt, many, palette, hues}
 use Rattle.counts.specs.declared.measure.Measure.{Measure}

@@ -1,5 +1,6 @@
 // Family 10, by masks.
 use bits::mask::has;
+use bits::mask::solved;
 ghost use mathlib.Core.Path.{_≡_};
 ghost use mathlib.Core.Bool.{false};
 ghost use Prim.Native.Nat.{_≤_};
@@ -13,7 +14,7 @@ fn cell_units(colors: u32, mask: u32) -> usize
     requires { ⌜ bit colors 0 ≡ false ⌝ }
     ensures { λ r. ⌜ r ≡ unitsBy colors mask ⌝ }
 {
-    if u32::count_ones(mask) != 1 {
+    if !solved(mask) {
         return (u32::count_ones(colors) - u32::count_ones(colors & mask)) as usize;
     }
     if has(mask, 0) {

@@ -10,7 +10,7 @@ use lib.ListN.{length, getD}
 use borrow.Author.Tests.{ne-eqb}
 use Rattle.lists.proofs.Eaches.{length-tab, getD-tab}
 use Rattle.refusals.specs.Verdict.{accepted}
-use Rattle.bits.specs.Bits.{bit, withBit}
+use Rattle.bits.specs.Bits.{bit, withBit, solved}
 use Rattle.bits.proofs.SetBits.{bit-some, with-same, with-zero}
 use Rattle.lines.specs.Line.{runs}
 use Rattle.lines.specs.Arrangement.{Proper, blockAt}
@@ -18,7 +18,7 @@ use Rattle.lines.proofs.Checks.{bytes-ok}
 use Rattle.lines.proofs.Reading.{runs-proper}
 use Rattle.lines.proofs.Coloring.{Seen, named-seen, runs-few, runs-fit}
 use Rattle.puzzles.specs.Puzzle.{width, height, lines, clueAt, lengthAt}
-use Rattle.puzzles.specs.Colors.{solved, offSolved}
+use Rattle.puzzles.specs.Colors.{offSolved}
 use Rattle.puzzles.specs.Checks.{colors, puzzleChecks, puzzle}
 use Rattle.puzzles.specs.Good.{Good}
 use Rattle.puzzles.proofs.Lines.{clue-column, clue-row, length-column, length-row}

@@ -4,7 +4,7 @@ use mathlib.Core.List.{List, [], _∷_, _++_, append-assoc, append-nil, flatMap}
 use Prim.Native.Nat.{ℕ, zero, suc, _+_, _-_, _*_, _≤_, _<_}
 use native.Mathlib.Omega.{arith}
 use native.Mathlib.Nat.{add-zero, add-suc, zero-mul, suc-mul}
-use native.Mathlib.Decide.{ℕ-discrete}
+use native.Mathlib.Decide.{ℕ-discrete, decLe}
 use native.Mathlib.Numerals.{one-add}
 use lib.ListN.{length, getD, length-append, List·getD-append}
 use lib.Seq.{getD-at}
@@ -86,3 +86,29 @@ module _ {A : Type 0} where
   pub tab-same : (n : ℕ) (f g : ℕ → A) → ((k : ℕ) → k < n → f k ≡ g k) → tab n f ≡ tab n g
   unfolding tab
   tab-same n f g h = each-same n _ _ (λ k l. rw (h k l))
+
+-- ---- parts that are empty
+
+module _ {A : Type 0} where
+  each-none : (n : ℕ) (f : ℕ → List A) → ((k : ℕ) → k < n → f k ≡ []) → each n f ≡ []
+  unfolding each
+  each-none zero f h = refl
+  each-none (suc n) f h = rw (each-none n f (λ k l. h k (omega arith)), h n (omega arith))
+
+  -- the parts from s on are all there are
+  pub each-late : (s n : ℕ) (f : ℕ → List A) → ((k : ℕ) → k < s → f k ≡ []) → each n f ≡ each (n - s) (λ k. f (s + k))
+  unfolding each
+  each-late s n f h = elim (decLe s n) [
+    | yes l ↦
+        let e : n ≡ s + (n - s) = omega arith in
+        ap (λ (m : ℕ). each m f) e ∙ each-plus s (n - s) f ∙ rw (each-none s f h)
+    | no l ↦
+        let e : n - s ≡ 0 = omega arith in
+        rw e (each-none n f (λ k i. h k (omega arith)))
+  ]
+
+  -- the parts before m are all there are
+  pub each-early : (m n : ℕ) (f g : ℕ → List A) → m ≤ n → ((k : ℕ) → k < m → f k ≡ g k) → ((k : ℕ) → m ≤ k → f k ≡ []) → each n f ≡ each m g
+  each-early m n f g l here none =
+      let e : n ≡ m + (n - m) = omega arith in
+      ap (λ (k : ℕ). each k f) e ∙ each-plus m (n - m) f ∙ rw (each-none (n - m) (λ k. f (m + k)) (λ k i. none (m + k) (omega arith)), append-nil) (each-same m f g here)

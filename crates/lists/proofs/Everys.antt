@@ -62,3 +62,21 @@ module _ {A : Type 0} (d : A) (P : A → Type 0) where
   unfolding flatten
   every-flat [] h = every-none
   every-flat (l ∷ ls) h = every-append l (flatten ls) (h 0 (omega arith)) (every-flat ls (λ i k. h (suc i) (omega arith)))
+
+  -- ---- and back: what holds of each holds of each in a part
+
+  pub append-every : (l m : List A) → Every d P (l ++ m) → Every d P l × Every d P m
+  append-every l m h = (
+    λ k i. rw (List·getD-append l m d k i) at (h k (omega (arith, length-append l m))),
+    λ k i. rw (getD-append-add l m k d) at (h (length l + k) (omega (arith, length-append l m))),
+  )
+
+  pub each-every : (n : ℕ) (f : ℕ → List A) → Every d P (each n f) → (k : ℕ) → k < n → Every d P (f k)
+  unfolding each
+  each-every zero f h k l = absurd (omega arith)
+  each-every (suc n) f h k l =
+      let (before, last) = append-every (each n f) (f n) h in
+      elim (decLt k n) [
+        | yes i ↦ each-every n f before k i
+        | no i ↦ let e : n ≡ k = omega arith in rw e at last
+      ]

@@ -10,12 +10,11 @@ use borrow.Author.Tests.{eq-eqb, eqb-true}
 use Rattle.lists.specs.Each.{each, when}
 use Rattle.lists.proofs.Tests.{not-true}
 use Rattle.literals.specs.Literals.{positive, negative}
-use Rattle.bits.specs.Bits.{bit}
+use Rattle.bits.specs.Bits.{bit, solved}
 use Rattle.sections.specs.Sections.{Clause}
 use Rattle.lines.specs.Clue.{gap}
 use Rattle.lines.specs.Arrangement.{at, covers, clash}
 use Rattle.puzzles.specs.Puzzle.{Puzzle, width, height}
-use Rattle.puzzles.specs.Colors.{solved}
 use Rattle.numbering.specs.Variables.{Line, lineAt, many, placedAt, firstOf, variable, hues, hue, cellFirst, cellVariable}
 use Rattle.numbering.proofs.Bounds.{first-some}
 use Rattle.placement.specs.Placement.{blockPositions, blockOnce, nonOverlap, ruled, ofLines, ofColumns, ofRows}

@@ -7,9 +7,9 @@ use native.Mathlib.Omega.{arith}
 use lib.Dec.{eqb}
 use lib.ListN.{length, getD}
 use borrow.Author.Tests.{eq-eqb, ne-eqb, eqb-true}
-use Rattle.bits.specs.Bits.{bit, powers}
+use Rattle.bits.specs.Bits.{bit, powers, solved}
 use Rattle.puzzles.specs.Puzzle.{Puzzle}
-use Rattle.puzzles.specs.Colors.{solved, offSolved}
+use Rattle.puzzles.specs.Colors.{offSolved}
 use Rattle.puzzles.specs.Checks.{colors}
 use Rattle.puzzles.proofs.ColorSets.{set-within}
 use Rattle.numbering.specs.Variables.{palette, hues, hue}

@@ -8,9 +8,8 @@ use native.Mathlib.Omega.{arith}
 use native.Mathlib.Decide.{ℕ-discrete}
 use lib.ListN.{length, getD}
 use Rattle.refusals.specs.Verdict.{accepted}
-use Rattle.bits.specs.Bits.{bit, withBit}
+use Rattle.bits.specs.Bits.{bit, withBit, solved}
 use Rattle.bits.proofs.SetBits.{with-same, with-keeps}
-use Rattle.puzzles.specs.Colors.{solved}
 use Rattle.puzzles.specs.Checks.{colors}
 use Rattle.grids.specs.Grid.{gridPuzzle, gridChecks}
 use Rattle.grids.specs.Sized.{Sized}

@@ -10,12 +10,12 @@ use Rattle.lists.specs.Each.{each, tab, pairs, product}
 use Rattle.refusals.specs.Verdict.{firstOff}
 use Rattle.refusals.specs.Walk.{walked, readOr, word, times, counted}
 use Rattle.sections.specs.Sections.{atLeastOne, atMostOne}
-use Rattle.bits.specs.Bits.{bit, powers, withBit}
+use Rattle.bits.specs.Bits.{bit, powers, withBit, solved}
 use Rattle.lines.specs.Clue.{words, gap, packedFrom, packed, lastEnd, minSpace, positions, conflict}
 use Rattle.lines.specs.Line.{run, runsFrom, runs}
 use Rattle.lines.specs.Arrangement.{blockAt}
 use Rattle.puzzles.specs.Puzzle.{clueWords, linesWords, cellsWords, puzzleWords, clueAt, lengthAt}
-use Rattle.puzzles.specs.Colors.{withColors, withLines, colorSet, known, solved, offSolved}
+use Rattle.puzzles.specs.Colors.{withColors, withLines, colorSet, known, offSolved}
 use Rattle.puzzles.specs.Walk.{readBlock, readPuzzle}
 use Rattle.puzzles.specs.Checks.{spaces, meaningChecks, puzzle}
 use Rattle.puzzles.specs.Firsts.{firstAt}

@@ -10,8 +10,7 @@ use Rattle.sections.specs.Sections.{Clause}
 use Rattle.lines.specs.Clue.{gap}
 use Rattle.lines.specs.Arrangement.{at, covers, clash}
 use Rattle.puzzles.specs.Puzzle.{Puzzle, width, height}
-use Rattle.puzzles.specs.Colors.{solved}
-use Rattle.bits.specs.Bits.{bit}
+use Rattle.bits.specs.Bits.{bit, solved}
 use Rattle.numbering.specs.Variables.{Line, lineAt, many, placedAt, variable, hues, hue, cellVariable}
 use Rattle.cells.specs.Cells.{maskAt}
 use Rattle.counts.specs.Families.{families}

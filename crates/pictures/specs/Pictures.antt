@@ -9,11 +9,10 @@ use lib.ListN.{length, getD}
 use Rattle.lists.specs.Each.{each, tab, when, Every}
 use Rattle.refusals.specs.Verdict.{accepted}
 use Rattle.literals.specs.Literals.{negative}
-use Rattle.bits.specs.Bits.{bit}
+use Rattle.bits.specs.Bits.{bit, solved}
 use Rattle.sections.specs.Sections.{Clause}
 use Rattle.lines.specs.Line.{runs}
 use Rattle.puzzles.specs.Puzzle.{Puzzle, width, height}
-use Rattle.puzzles.specs.Colors.{solved}
 use Rattle.puzzles.specs.Checks.{colors, puzzle, puzzleChecks}
 use Rattle.numbering.specs.Variables.{palette, hues, hue, firstCell, cellVariable, variables}
 use Rattle.counts.specs.Families.{clauses}

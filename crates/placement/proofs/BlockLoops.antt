@@ -8,10 +8,10 @@ use lib.IntN.{ℤ}
 use lib.ListN.{length, getD}
 use Rattle.lists.specs.Each.{each, tab}
 use Rattle.lists.specs.Wrote.{Wrote}
-use Rattle.lists.proofs.Emitting.{Emitting}
+use Rattle.lists.proofs.Emitting.{Emitting, EmittingFrom}
 use Rattle.literals.specs.Literals.{largest}
 use Rattle.sections.specs.Sections.{Clause, clausesWords, atLeastOne, atMostOne}
-use Rattle.sections.proofs.ClauseLists.{say-first, say-done}
+use Rattle.sections.proofs.ClauseLists.{say-first, say-done, say-from, say-from-done}
 use Rattle.lines.specs.Clue.{gap}
 use Rattle.lines.specs.Arrangement.{at, Meets}
 use Rattle.numbering.specs.Variables.{Line, many, firstOf}
@@ -19,7 +19,6 @@ use Rattle.numbering.specs.Tables.{Sound, lineOf}
 use Rattle.numbering.proofs.SoundLines.{sound-least, sound-most, of-many, of-first, of-positions}
 use Rattle.placement.specs.Placement.{blockPositions, blockOnce, conflicts, nonOverlap}
 use Rattle.placement.specs.PairRows.{rowsFrom, laterPairs}
-use Rattle.placement.proofs.LateLoops.{EmittingFrom, say-from, say-from-done}
 use Rattle.placement.proofs.RowLaw.{conflicts-rows, non-overlap-later}
 
 -- the n variables from v on are some

@@ -1,4 +1,3 @@
 pub mod BlockLoops
-pub mod LateLoops
 pub mod RowLaw
 pub mod SectionLoops

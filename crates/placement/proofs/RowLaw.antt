@@ -8,16 +8,17 @@ use lib.IntN.{ℤ}
 use lib.ListN.{length}
 use lib.Dec.{leb}
 use borrow.Author.Tests.{le-leb, lt-leb}
+use Rattle.lists.proofs.Emitting.{EmittingFrom}
+use Rattle.sections.proofs.ClauseLists.{say-from, say-from-done}
 use Rattle.lists.specs.Each.{each, tab, pairs, product, when}
 use Rattle.lists.specs.Wrote.{Wrote}
-use Rattle.lists.proofs.Eaches.{each-same}
+use Rattle.lists.proofs.Eaches.{each-same, each-late, each-early}
 use Rattle.sections.specs.Sections.{clausesWords, notBoth, row}
 use Rattle.lines.specs.Clue.{gap}
 use Rattle.lines.specs.Arrangement.{at, Meets}
 use Rattle.numbering.specs.Variables.{Line, many, firstOf, variable}
 use Rattle.placement.specs.Placement.{conflicts, nonOverlap}
 use Rattle.placement.specs.PairRows.{rowsFrom, laterPairs}
-use Rattle.placement.proofs.LateLoops.{each-late, each-early, EmittingFrom, say-from, say-from-done}
 
 row-none : (x y n : ℕ) → n ≡ 0 → row x y n ≡ []
 unfolding row tab each

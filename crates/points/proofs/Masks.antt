@@ -2,51 +2,39 @@
 use mathlib.Core.Path.{_≡_}
 use mathlib.Core.Bool.{true, false}
 use mathlib.Core.List.{List, [], _∷_, flatMap}
-use Prim.Native.Nat.{ℕ, _+_, _^_, _≤_, _<_}
-use lib.Count.{ones}
+use Prim.Native.Nat.{ℕ, _+_, _≤_}
 use lib.IntN.{ℤ}
 use lib.ListN.{length}
-use borrow.Author.Tests.{eq-eqb, ne-eqb}
 use Rattle.lists.specs.Wrote.{Wrote}
 use Rattle.lists.proofs.Writing.{wrote-none}
 use Rattle.literals.specs.Literals.{positive, negative}
 use Rattle.sections.specs.Sections.{Clause, clauseWords, clausesWords}
 use Rattle.sections.proofs.ClauseLists.{said}
-use Rattle.bits.specs.Bits.{bit}
-use Rattle.bits.proofs.LowestFirst.{powers-count}
-use Rattle.puzzles.specs.Colors.{solved}
+use Rattle.bits.specs.Bits.{bit, solved}
 use Rattle.cells.specs.Cells.{precomputed}
 
-module _ (mask c v : ℕ) (small : mask < 2 ^ 32) where
-  module _ (one : ones mask ≡ 1) where
-    is-solved : solved mask ≡ true
-    unfolding solved
-    is-solved = rw (powers-count mask small, eq-eqb (ones mask) 1 one)
-
+module _ (mask c v : ℕ) where
+  module _ (one : solved mask ≡ true) where
     pub solved-blank : bit mask 0 ≡ true → precomputed mask c v ≡ (negative v ∷ []) ∷ []
     unfolding precomputed
-    solved-blank e = rw (is-solved, e)
+    solved-blank e = rw (one, e)
 
     pub solved-color : bit mask 0 ≡ false → bit mask c ≡ true → precomputed mask c v ≡ (positive v ∷ []) ∷ []
     unfolding precomputed
-    solved-color e q = rw (is-solved, e, q)
+    solved-color e q = rw (one, e, q)
 
     pub solved-other : bit mask 0 ≡ false → bit mask c ≡ false → precomputed mask c v ≡ []
     unfolding precomputed
-    solved-other e q = rw (is-solved, e, q)
+    solved-other e q = rw (one, e, q)
 
-  module _ (more : ones mask ≡ 1 → ⊥) where
-    not-solved : solved mask ≡ false
-    unfolding solved
-    not-solved = rw (powers-count mask small, ne-eqb (ones mask) 1 more)
-
+  module _ (more : solved mask ≡ false) where
     pub unsolved-open : bit mask c ≡ true → precomputed mask c v ≡ []
     unfolding precomputed
-    unsolved-open q = rw (not-solved, q)
+    unsolved-open q = rw (more, q)
 
     pub unsolved-excluded : bit mask c ≡ false → precomputed mask c v ≡ (negative v ∷ []) ∷ []
     unfolding precomputed
-    unsolved-excluded q = rw (not-solved, q)
+    unsolved-excluded q = rw (more, q)
 
 -- ---- a unit clause, or nothing
 

@@ -1,5 +1,6 @@
 // Section 10: unit clauses, by each cell's mask and each colour. Cells row by row.
 use bits::mask::has;
+use bits::mask::solved;
 use boards::board::Board;
 use literals::no;
 use literals::number;
@@ -32,7 +33,7 @@ fn precomputed_color(mask: u32, color: u32, v: usize, out: &mut [i32], at: usize
     ensures { λ r. ⌜ Wrote (clausesWords (precomputed mask color v)) (now (out .entry)) at (now (out .exit)) r ⌝ }
 {
     let there = has(mask, color);
-    if u32::count_ones(mask) == 1 {
+    if solved(mask) {
         if has(mask, 0) {
             return put_one(no(v), out, at);
         }

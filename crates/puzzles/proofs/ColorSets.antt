@@ -13,14 +13,14 @@ use lib.ListN.{length, getD}
 use lib.Pow.{pow-pos, pow-lt}
 use borrow.Author.Tests.{eq-eqb, ne-eqb, eqb-true}
 use Rattle.lists.proofs.Tests.{both}
-use Rattle.bits.specs.Bits.{bit, withBit}
+use Rattle.bits.specs.Bits.{bit, withBit, solved}
 use Rattle.bits.proofs.SetBits.{bit-and, bit-or, bit-power, bit-some}
 use Rattle.bits.proofs.LowestFirst.{powers-count, same-bits}
 use Rattle.bits.proofs.Collecting.{Collects, Some, collects-bit, collects-all}
 use Rattle.lines.specs.Clue.{Block}
 use Rattle.lines.specs.Arrangement.{blockAt}
 use Rattle.puzzles.specs.Puzzle.{Puzzle, width, lines, clueAt}
-use Rattle.puzzles.specs.Colors.{withColors, withLines, colorSet, solved, offSolved}
+use Rattle.puzzles.specs.Colors.{withColors, withLines, colorSet, offSolved}
 use Rattle.puzzles.specs.Checks.{colors}
 use Rattle.puzzles.specs.Good.{Good}
 use Rattle.puzzles.proofs.Lines.{clue-row}

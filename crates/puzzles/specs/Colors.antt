@@ -4,8 +4,7 @@ use mathlib.Core.List.{List, [], _∷_}
 use Prim.Native.Nat.{ℕ}
 use lib.Bits.{bitAnd, bitOr}
 use lib.Dec.{eqb}
-use lib.ListN.{length}
-use Rattle.bits.specs.Bits.{bit, powers, withBit}
+use Rattle.bits.specs.Bits.{bit, withBit, solved}
 use Rattle.lines.specs.Clue.{Block}
 
 -- the mask, with the colours of blocks
@@ -25,10 +24,6 @@ colorSet rows = cond (eqb (withLines 0 rows) 0) 2 (withLines 0 rows)
 unfoldable pub known : ℕ → List Block → Bool
 known K [] = true
 known K (b ∷ bs) = bit K (b .color) && known K bs
-
--- one bit set: solved
-unfoldable pub solved : ℕ → Bool
-solved mask = eqb (length (powers mask)) 1
 
 -- a solved cell's colour is not in K: its bit is neither blank's nor in K
 unfoldable pub offSolved : ℕ → ℕ → Bool

@@ -1,3 +1,4 @@
-// Stored cases of clauses: made, counted, and written as text.
+// Stored cases of calls that take a puzzle, and of clauses as text.
 pub mod dimacs;
+pub mod model;
 pub mod puzzle;

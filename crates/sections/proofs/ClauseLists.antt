@@ -1,7 +1,7 @@
 -- The words and the literals of clauses, list by list.
 use mathlib.Core.Path.{_≡_, refl, sym}
 use mathlib.Core.List.{List, [], _∷_, _++_, append-nil, flatMap}
-use Prim.Native.Nat.{ℕ, zero, suc, _+_, _≤_}
+use Prim.Native.Nat.{ℕ, zero, suc, _+_, _-_, _≤_}
 use native.Mathlib.Omega.{arith}
 use native.Mathlib.Nat.{zero-add}
 use lib.IntN.{ℤ}
@@ -9,7 +9,7 @@ use lib.ListN.{length, length-append}
 use Rattle.lists.proofs.Eaches.{flat-append}
 use Rattle.lists.specs.Each.{each, sum}
 use Rattle.lists.specs.Wrote.{Wrote}
-use Rattle.lists.proofs.Emitting.{Emitting, emit-first, emit-done}
+use Rattle.lists.proofs.Emitting.{Emitting, emit-first, emit-done, EmittingFrom, from-first, from-done}
 use Rattle.sections.specs.Sections.{Clause, clauseWords, clausesWords, sectionWords, literals}
 
 pub clauses-each : (n : ℕ) (f : ℕ → List Clause) → clausesWords (each n f) ≡ each n (λ k. clausesWords (f k))
@@ -29,6 +29,14 @@ module _ (n : ℕ) (f : ℕ → List Clause) where
 
   pub say-done : {out₀ out : List ℤ} {at₀ at i : ℕ} → Emitting n (λ k. clausesWords (f k)) out₀ at₀ out at i → n ≤ i → Wrote (clausesWords (each n f)) out₀ at₀ out at
   say-done E h = rw (clauses-each n f) (emit-done E h)
+
+-- and where the first turn is s
+module _ (s n : ℕ) (f : ℕ → List Clause) where
+  pub say-from : (out : List ℤ) (at : ℕ) → at + length (clausesWords (each (n - s) (λ k. f (s + k)))) ≤ length out → EmittingFrom s n (λ k. clausesWords (f k)) out at out at s
+  say-from out at h = from-first s n (λ k. clausesWords (f k)) out at (rw (← clauses-each (n - s) (λ k. f (s + k))) h)
+
+  pub say-from-done : {out₀ out : List ℤ} {at₀ at i : ℕ} → EmittingFrom s n (λ k. clausesWords (f k)) out₀ at₀ out at i → n ≤ i → Wrote (clausesWords (each (n - s) (λ k. f (s + k)))) out₀ at₀ out at
+  say-from-done E h = rw (clauses-each (n - s) (λ k. f (s + k))) (from-done E h)
 
 -- one clause
 pub said : (c : Clause) {out out₁ : List ℤ} {at at₁ : ℕ} → Wrote (clauseWords c) out at out₁ at₁ → Wrote (clausesWords (c ∷ [])) out at out₁ at₁

@@ -10,12 +10,12 @@ use Rattle.refusals.specs.Outcome.{Outcome, verdict, kept}
 use Rattle.refusals.proofs.Answering.{outcome-determined}
 use Rattle.refusals.specs.Walk.{walked, readOr, word, times, counted}
 use Rattle.sections.specs.Sections.{literals, atLeastOne, atMostOne, clauseWords, sectionWords}
-use Rattle.bits.specs.Bits.{bit, powers, withBit}
+use Rattle.bits.specs.Bits.{bit, powers, withBit, solved}
 use Rattle.lines.specs.Clue.{words, blocks, gap, packedFrom, packed, lastEnd, minSpace, positions, ofColor, range, conflict}
 use Rattle.lines.specs.Line.{run, runsFrom, runs}
 use Rattle.lines.specs.Calls.{blockChecks, clueChecks, startsWords, rangesWords, lineChecks, lineWords}
 use Rattle.puzzles.specs.Puzzle.{clueAt, lengthAt}
-use Rattle.puzzles.specs.Colors.{withColors, withLines, colorSet, known, solved, offSolved}
+use Rattle.puzzles.specs.Colors.{withColors, withLines, colorSet, known, offSolved}
 use Rattle.puzzles.specs.Walk.{readBlock, readPuzzle}
 use Rattle.puzzles.specs.Checks.{spaces, meaningChecks, puzzle}
 use Rattle.puzzles.specs.Firsts.{firstAt}

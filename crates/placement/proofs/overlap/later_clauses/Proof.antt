@@ -2,11 +2,11 @@ use mathlib.Core.Path.{_≡_}
 use Prim.Native.Nat.{_+_, _-_, _*_, _/_}
 use native.Mathlib.Omega.{arith}
 use lib.ListN.{length}
+use Rattle.lists.proofs.Emitting.{EmittingFrom, from-room, from-next, from-kept}
 use Rattle.sections.specs.Sections.{clausesWords}
 use Rattle.numbering.specs.Tables.{lineOf}
 use Rattle.placement.specs.Placement.{conflicts}
 use Rattle.placement.specs.PairRows.{rowsFrom}
-use Rattle.placement.proofs.LateLoops.{EmittingFrom, from-room, from-next, from-kept}
 use Rattle.placement.proofs.BlockLoops.{InRange, in-range, pair-is, later-first, later-done}
 use borrow.Author.Needs.{needs}
 use Rattle.placement.proofs.overlap.later_clauses.Statement.{statement}

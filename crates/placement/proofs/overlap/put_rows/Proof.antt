@@ -1,7 +1,7 @@
 use Prim.Native.Nat.{_+_, _-_}
 use native.Mathlib.Omega.{arith}
+use Rattle.lists.proofs.Emitting.{EmittingFrom, from-room, from-next, from-kept}
 use Rattle.sections.specs.Sections.{clausesWords, row}
-use Rattle.placement.proofs.LateLoops.{EmittingFrom, from-room, from-next, from-kept}
 use Rattle.placement.proofs.RowLaw.{rows-first, rows-done}
 use borrow.Author.Needs.{needs}
 use Rattle.placement.proofs.overlap.put_rows.Statement.{statement}
