@@ -41,7 +41,7 @@ module _ {A : Type 0} (f : ℕ → A) where
 -- ---- block by block
 
 abbrev pub ofBlock : Line → ℕ → ℕ → ℕ → List ℕ
-ofBlock L c t b = when (eqb (at (L .runs) b .color) c) (coveringBlock (firstOf L b) (L .positions) (at (L .runs) b .start) (at (L .runs) b .size) t)
+ofBlock L c t b = when (eqb (at (L .runs) b .color) c) (coveringBlock (firstOf L b) (L .positions) (at (L .runs) b) t)
 
 pub covering-blocks : (L : Line) (c t : ℕ) → covering L c t ≡ each (many L) (ofBlock L c t)
 unfolding covering coveringBlock
@@ -57,7 +57,7 @@ module _ {L : Line} (S : Sound L) (c t : ℕ) where
       omega (arith, ap length (covering-blocks L c t), length-each (many L) (ofBlock L c t), sum-below (many L) (λ b. length (ofBlock L c t b)) (λ b. at (L .runs) b .size) few, sound-sizes S)
     where
       few : (b : ℕ) → b < many L → length (ofBlock L c t b) ≤ at (L .runs) b .size
-      few b h = when-most (eqb (at (L .runs) b .color) c) _ _ (block-most (firstOf L b) (at (L .runs) b .start) (at (L .runs) b .size) t (L .positions))
+      few b h = when-most (eqb (at (L .runs) b .color) c) _ _ (block-most (firstOf L b) (at (L .runs) b) t (L .positions))
 
   pub covering-variables : AreVariables (covering L c t)
   covering-variables = covering-every IsVariable L c t (λ b i h l. record { least = omega (arith, sound-least S b h); most = omega (arith, sound-most S b h) })

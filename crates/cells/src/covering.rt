@@ -1,11 +1,17 @@
 // The positions of a line's blocks that cover a cell.
 use boards::table::clue_end;
+use lines::meet::Run;
+use lines::meet::behind;
+use lines::meet::covers;
 use lists::wide;
+use numbering::line::run_at;
 ghost use mathlib.Core.Path.{_≡_};
 ghost use Prim.Native.Nat.{_+_, _≤_, _<_};
 ghost use lib.ListN.{length, take};
 ghost use Rattle.lists.specs.Wrote.{Wrote};
 ghost use Rattle.literals.specs.Literals.{largest};
+ghost use Rattle.lines.specs.Clue.{end};
+ghost use Rattle.lines.specs.Runs.{run};
 ghost use Rattle.puzzles.specs.Puzzle as P;
 ghost use Rattle.puzzles.specs.Checks.{puzzle};
 ghost use Rattle.numbering.specs.Variables.{lineAt};
@@ -14,25 +20,17 @@ ghost use Rattle.cells.specs.Cells.{covering};
 ghost use Rattle.cells.specs.Found.{coveringBlock};
 
 // Of a block with p positions, numbered from v on, those that cover cell t. From the first that begins behind it on, none does.
-fn covering_block(
-    v: usize,
-    p: usize,
-    start: usize,
-    size: usize,
-    t: usize,
-    found: &mut [usize],
-    at: usize,
-) -> usize
-    requires { ⌜ (v + p ≤ largest + 1) × (start + size + p ≤ 65) ⌝ }
-    requires { ⌜ at + length (coveringBlock v p start size t) ≤ length (now found) ⌝ }
-    ensures { λ r. ⌜ Wrote (coveringBlock v p start size t) (now (found .entry)) at (now (found .exit)) r ⌝ }
+fn covering_block(v: usize, p: usize, block: Run, t: usize, found: &mut [usize], at: usize) -> usize
+    requires { ⌜ (v + p ≤ largest + 1) × (end (run block) + p ≤ 65) ⌝ }
+    requires { ⌜ at + length (coveringBlock v p (run block) t) ≤ length (now found) ⌝ }
+    ensures { λ r. ⌜ Wrote (coveringBlock v p (run block) t) (now (found .entry)) at (now (found .exit)) r ⌝ }
 {
     let mut to = at;
     for i in 0..p {
-        if t < start + i {
+        if behind(block, i, t) {
             return to;
         }
-        if start + i + size <= t {
+        if !covers(block, i, t) {
             continue;
         }
         found[to] = v + i;
@@ -57,12 +55,11 @@ fn covering_positions(
     let p = wide(line[2]);
     let mut to = 0;
     for b in 0..clue.len() / 2 {
-        if clue[2 * b + 1] != color {
+        let block = run_at(line, clue, b);
+        if block.color != color {
             continue;
         }
-        let start = wide(line[4 + b]);
-        let size = wide(clue[2 * b]);
-        to = covering_block(first + b * p, p, start, size, t, found, to);
+        to = covering_block(first + b * p, p, block, t, found, to);
     }
     to
 }

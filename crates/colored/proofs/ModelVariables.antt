@@ -6,7 +6,7 @@ use native.Mathlib.Omega.{arith}
 use native.Mathlib.Nat.{mul-comm}
 use lib.ListN.{length, take, drop}
 use Rattle.lists.proofs.Parts.{part-within, place-within}
-use Rattle.lines.specs.Clue.{gap}
+use Rattle.lines.specs.Clue.{Run, gap}
 use Rattle.lines.proofs.Packing.{packed-length}
 use Rattle.puzzles.specs.Puzzle.{Puzzle, lines, width, height, clueAt}
 use Rattle.puzzles.specs.Checks.{puzzle}
@@ -46,7 +46,7 @@ module _ (model : List ℕ) (z : Puzzle) (all : length model ≡ variables z) wh
     color-within r m = (omega (arith, cell-within), omega (arith, cell-within))
 
 -- the positions of a block, as its numbers are read
-pub block-variables : (model : List ℕ) {line clue : List ℕ} {b first p start size : ℕ} → BlockRead line clue b first p start size → LineOf model (lineOf line clue) → (i : ℕ) → i < p → Of model (first + b * p + i)
+pub block-variables : (model : List ℕ) {line clue : List ℕ} {b first p : ℕ} {r : Run} → BlockRead line clue b first p r → LineOf model (lineOf line clue) → (i : ℕ) → i < p → Of model (first + b * p + i)
 block-variables model {line} {clue} {b} B W i m =
     rw (B .first-is, B .positions-is, of-first line clue, of-positions line clue) (W b i (of-line B) (omega (arith, B .positions-is, of-positions line clue)))
 

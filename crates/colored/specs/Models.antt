@@ -1,12 +1,9 @@
--- Variables that a model gives a value, and what a rule asks where a cell variable has it.
-use mathlib.Core.Bool.{Bool, false, not}
+-- Variables that a model gives a value.
 use mathlib.Core.List.{List}
 use Prim.Native.Nat.{ℕ, _≤_, _<_}
 use lib.ListN.{length}
 use Rattle.lists.specs.Each.{Every}
 use Rattle.numbering.specs.Variables.{Line, many, variable}
-use Rattle.cells.specs.declared.rule.Rule.{Rule}
-use Rattle.cells.specs.declared.rule.Rule.the-variants.{Color, Space}
 
 abbrev pub Of : List ℕ → ℕ → Type 0
 Of model v = (0 < v) × (v ≤ length model)
@@ -17,8 +14,3 @@ AllOf model us = Every 0 (Of model) us
 -- each position of a line's blocks
 abbrev pub LineOf : List ℕ → Line → Type 0
 LineOf model L = (b i : ℕ) → b < many L → i < L .positions → Of model (variable L b i)
-
--- the rule is kept whatever covers the cell: 7, where the cell variable is not true
-abbrev pub spares : Rule → Bool → Bool
-spares Color on = not on
-spares Space on = false

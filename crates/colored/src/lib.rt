@@ -2,5 +2,6 @@
 pub mod once;
 pub mod precomputed;
 pub mod section;
+mod side;
 mod spaces;
 mod support;

@@ -1,20 +1,32 @@
 // Family 10: unit clauses, by each cell's mask and each colour. Cells row by row.
-use crate::support::test_one;
 use bits::mask::has;
 use bits::mask::solved;
 use boards::board::Board;
 use truth::Tested;
 use truth::on;
 ghost use mathlib.Core.Path.{_≡_};
-ghost use Prim.Native.Nat.{_+_, _*_, _≤_, _<_};
+ghost use mathlib.Core.List.{[], _∷_};
+ghost use Prim.Native.Nat.{_+_, _*_, _^_, _≤_, _<_};
 ghost use lib.ListN.{length};
 ghost use Rattle.puzzles.specs.Checks.{puzzle};
 ghost use Rattle.numbering.specs.Variables.{variables};
-ghost use Rattle.truth.specs.Truth.{value};
+ghost use Rattle.sections.specs.Sections.{Clause};
+ghost use Rattle.truth.specs.Truth.{Assignment, value, clauseTrue};
 ghost use Rattle.truth.specs.Tested.{tested, said, Countable};
 ghost use Rattle.cells.specs.Cells.{precomputed, precomputedCells};
 ghost use Rattle.points.specs.Points.{ofMask, ofMasks, Masked};
 ghost use Rattle.colored.specs.Models.{Of};
+
+// One clause, of which it is known whether it holds.
+fn test_one(holds: bool, at: usize) -> Tested
+    requires { ⌜ at + 1 < 2 ^ 63 ⌝ }
+    ensures { λ r. ⌜ ((β : Assignment) (c : Clause) → clauseTrue β c ≡ holds → said r ≡ tested β at (c ∷ [])) ⌝ }
+{
+    if holds {
+        return Tested::Fine(at + 1);
+    }
+    Tested::False(at)
+}
 
 // One colour of a cell: its variable, the same negated, or nothing.
 fn test_color(mask: u32, color: u32, v: usize, model: &[u8], at: usize) -> Tested

@@ -1,87 +1,27 @@
 // Families 7 and 8: cells column by column, top to bottom; per cell its colours; per colour the column, then the row.
 use crate::spaces::test_spaces;
-use crate::support::some_on;
-use crate::support::spared;
-use crate::support::test_one;
+use crate::support::test_support;
 use boards::board::Board;
-use cells::covering::find_covering;
 use cells::rule::Rule;
 use cells::section::Ask;
 use truth::Tested;
 ghost use mathlib.Core.Path.{_≡_};
-ghost use mathlib.Core.Bool.{true, false, cond};
 ghost use mathlib.Core.List.{_++_};
-ghost use Prim.Native.Nat.{_+_, _^_, _≤_, _<_};
-ghost use lib.Dec.{eqb};
+ghost use Prim.Native.Nat.{_+_, _<_};
 ghost use lib.ListN.{length};
 ghost use Rattle.lists.specs.Each.{each};
 ghost use Rattle.puzzles.specs.Puzzle as P;
 ghost use Rattle.puzzles.specs.Checks.{puzzle};
-ghost use Rattle.numbering.specs.Variables.{lineAt, variables};
+ghost use Rattle.numbering.specs.Variables.{variables};
 ghost use Rattle.numbering.specs.Tables.{Ready};
 ghost use Rattle.truth.specs.Truth.{value};
 ghost use Rattle.truth.specs.Tested.{tested, said, Countable};
-ghost use Rattle.cells.specs.Cells.{covering, ruled, ofCells, ofCell};
+ghost use Rattle.cells.specs.Cells.{ofCells, ofCell};
 ghost use Rattle.cells.specs.Asked.{asked};
 ghost use Rattle.cells.specs.Given.{Given};
-ghost use Rattle.cells.specs.declared.rule.Rule.the-variants.{Color};
-ghost use Rattle.colored.specs.Models.{Of, spares};
+ghost use Rattle.colored.specs.Models.{Of};
 
-// 7, of line l and its cell t: a cell that has the colour is covered.
-fn test_support(
-    words: &[u32],
-    table: &[u32],
-    l: usize,
-    t: usize,
-    color: u32,
-    v: usize,
-    model: &[u8],
-    found: &mut [usize],
-    at: usize,
-) -> Tested
-    requires { ⌜ Ready (now words) (now table) ⌝ }
-    requires { ⌜ (l < P.lines (puzzle (now words))) × (64 ≤ length (now found)) × (length (now model) ≡ variables (puzzle (now words))) ⌝ }
-    requires { ⌜ (0 < v) × (value (now model) v ≡ true) × (at + 1 < 2 ^ 63) ⌝ }
-    ensures { λ r. ⌜ said r ≡ tested (value (now (model .entry))) at (ruled Color v (covering (lineAt (puzzle (now (words .entry))) l) color t)) ⌝ }
-{
-    let n = find_covering(words, table, l, t, color, found);
-    test_one(some_on(model, &found[..n]), at)
-}
-
-// Of line l and its cell t.
-fn test_line(
-    words: &[u32],
-    table: &[u32],
-    l: usize,
-    t: usize,
-    ask: Ask,
-    model: &[u8],
-    found: &mut [usize],
-    at: usize,
-) -> Tested
-    requires { ⌜ Ready (now words) (now table) ⌝ }
-    requires { ⌜ (l < P.lines (puzzle (now words))) × (64 ≤ length (now found)) × (length (now model) ≡ variables (puzzle (now words))) × Of (now model) (ask .v) ⌝ }
-    requires { ⌜ (spares (ask .rule) (value (now model) (ask .v)) ≡ false) × Countable at (asked (puzzle (now words)) ask l t) ⌝ }
-    ensures { λ r. ⌜ said r ≡ tested (value (now (model .entry))) at (asked (puzzle (now (words .entry))) ask l t) ⌝ }
-{
-    let rule = ask.rule;
-    match rule {
-        Rule::Color => test_support(words, table, l, t, ask.color, ask.v, model, found, at),
-        Rule::Space => test_spaces(words, table, l, t, ask.color, ask.v, model, at),
-    }
-}
-
-// The first on side 0, and else the second.
-fn pick(side: usize, first: usize, second: usize) -> usize
-    ensures { λ r. ⌜ r ≡ cond (eqb side 0) first second ⌝ }
-{
-    if side == 0 {
-        return first;
-    }
-    second
-}
-
-// Of the cell of column x and row y: its column, then its row. One call tests both, so that it is compiled in place.
+// Of the cell of column x and row y: its column, then its row.
 fn test_color(
     words: &[u32],
     table: &[u32],
@@ -99,22 +39,12 @@ fn test_color(
     requires { ⌜ Countable at (asked (puzzle (now words)) ask x y ++ asked (puzzle (now words)) ask (width + y) x) ⌝ }
     ensures { λ r. ⌜ said r ≡ tested (value (now (model .entry))) at (asked (puzzle (now (words .entry))) ask x y ++ asked (puzzle (now (words .entry))) ask (width + y) x) ⌝ }
 {
-    let rule = ask.rule;
-    if spared(rule, model, ask.v) {
-        return Tested::Fine(at + 2);
-    }
     let row = width + y;
-    let mut to = at;
-    for side in 0..2 {
-        let l = pick(side, x, row);
-        let t = pick(side, y, x);
-        let line = test_line(words, table, l, t, ask, model, found, to);
-        let Tested::Fine(next) = line else {
-            return line;
-        };
-        to = next;
+    let rule = ask.rule;
+    match rule {
+        Rule::Color => test_support(words, table, x, row, y, ask.color, ask.v, model, found, at),
+        Rule::Space => test_spaces(words, table, x, row, y, ask.color, ask.v, model, at),
     }
-    Tested::Fine(to)
 }
 
 fn test_cell(

@@ -15,7 +15,7 @@ use Rattle.puzzles.specs.Checks.{colors}
 use Rattle.puzzles.specs.Good.{Good}
 use Rattle.numbering.specs.Variables.{Line, many, hues, palette}
 use Rattle.numbering.specs.Tables.{Sound}
-use Rattle.numbering.proofs.SoundLines.{sound-shared, sound-some, sound-distance, sound-sizes}
+use Rattle.numbering.proofs.SoundLines.{sound-shared, sound-some, sound-meets, sound-sizes}
 use Rattle.numbering.proofs.Bounds.{line-sound, hues-most, cells-most}
 use Rattle.numbering.proofs.Palettes.{palette-most}
 use Rattle.counts.specs.Formulas.{onceIn, overlapPair, overlapIn, spaceIn, measured, overLines, pointCount, excluded, unitsBy, unitCount}
@@ -48,7 +48,7 @@ module _ {L : Line} (S : Sound L) (m : ℕ) (most : L .positions ≤ m) where
 
   overlap-below : overlapIn L ≤ m * (m - 1) / 2 * (many L * (many L - 1) / 2)
   unfolding overlapIn overlapPair
-  overlap-below = pairs-below (many L) (m * (m - 1) / 2) _ (λ a b h l. pair-below _ (sound-distance S a b h l))
+  overlap-below = pairs-below (many L) (m * (m - 1) / 2) _ (λ a b h l. pair-below _ (sound-meets S a b h l .some))
 
 module _ {L : Line} (S : Sound L) where
   once-most : onceIn L ≤ 133120

@@ -12,7 +12,7 @@ use Rattle.puzzles.specs.Puzzle.{lines}
 use Rattle.puzzles.specs.Checks.{puzzle}
 use Rattle.numbering.specs.Variables.{Line, lineAt, many}
 use Rattle.numbering.specs.Tables.{Ready, Sound, lineOf}
-use Rattle.numbering.proofs.SoundLines.{of-many, of-positions, sound-shared, sound-some, sound-sizes, sound-distance}
+use Rattle.numbering.proofs.SoundLines.{of-many, of-positions, sound-shared, sound-some, sound-sizes, sound-meets}
 use Rattle.numbering.proofs.Bounds.{line-sound}
 use Rattle.counts.specs.Formulas.{onceIn, overlapPair, overlapAt, overlapIn, cellsIn, spaceIn, measured, unitsBy}
 use Rattle.counts.specs.declared.measure.Measure.{Measure}
@@ -26,7 +26,7 @@ module _ {L : Line} (S : Sound L) where
 
   pub later-first : (a : ℕ) → Summing (many L - suc a) 2080 (λ j. overlapPair L a (suc a + j)) 0 0
   unfolding overlapPair
-  later-first a = summing-first (many L - suc a) 2080 _ (λ j h. pair-most S _ (sound-distance S a (suc a + j) (omega arith) (omega arith)))
+  later-first a = summing-first (many L - suc a) 2080 _ (λ j h. pair-most S _ (sound-meets S a (suc a + j) (omega arith) (omega arith) .some))
 
   pub overlap-first : Summing (many L) 133120 (overlapAt L) 0 0
   unfolding overlapAt

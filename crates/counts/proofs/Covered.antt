@@ -1,19 +1,19 @@
 -- Family 8: per position as many clauses as its block has cells, whatever order the cells are taken in.
 use mathlib.Core.Path.{_≡_, refl, sym, ap, _∙_}
-use mathlib.Core.Bool.{Bool, true, false, cond, _&&_}
+use mathlib.Core.Bool.{Bool, true, false, cond}
 use mathlib.Core.List.{[], _∷_}
 use Prim.Native.Nat.{ℕ, zero, suc, _+_, _-_, _≤_, _<_}
 use native.Mathlib.Omega.{arith}
-use native.Mathlib.Decide.{decLe, decLt}
-use lib.Dec.{eqb, leb, ltb}
+use lib.Dec.{eqb}
 use lib.ListN.{length, length-append, length-map}
-use borrow.Author.Tests.{eq-eqb, ne-eqb, le-leb, lt-leb, lt-ltb, le-ltb}
+use borrow.Author.Tests.{eq-eqb, ne-eqb}
 use Rattle.lists.specs.Each.{each, when, sum}
 use Rattle.lists.proofs.Sums.{sum-same, sum-both, sum-swap, sum-plus, sum-constant, length-each, length-when}
-use Rattle.lines.specs.Clue.{Run, end, gap}
+use Rattle.lines.specs.Clue.{end, gap}
 use Rattle.lines.specs.Arrangement.{at, blockAt, covers}
 use Rattle.lines.proofs.Packing.{base-gap, packed-length, packed-color}
 use Rattle.lines.proofs.Moving.{moved-within}
+use Rattle.lines.proofs.Covering.{covers-cells}
 use Rattle.puzzles.specs.Puzzle.{Puzzle, width, height, lines, clueAt, lengthAt}
 use Rattle.puzzles.specs.Checks.{colors}
 use Rattle.puzzles.specs.Good.{Good}
@@ -24,25 +24,6 @@ use Rattle.cells.specs.Cells.{covering, ruled, ofColor, byColumn, ofCells}
 use Rattle.cells.specs.declared.rule.Rule.the-variants.{Space}
 use Rattle.counts.specs.Formulas.{spaceIn, measured, overLines, spaceCount}
 use Rattle.counts.proofs.OverColors.{over-one}
-
--- the cells from a up to b, of n
-interval : (n a b : ℕ) → a ≤ b → sum n (λ t. cond (leb a t && ltb t b) 1 0) ≡ (n - a) - (n - b)
-unfolding sum
-interval zero a b h = omega arith
-interval (suc n) a b h = omega (arith, interval n a b h, step)
-  where
-    step : cond (leb a n && ltb n b) 1 0 + ((n - a) - (n - b)) ≡ (suc n - a) - (suc n - b)
-    step = elim (decLe a n) [
-      | yes l ↦ elim (decLt n b) [
-        | yes m ↦ rw (le-leb a n l, lt-ltb n b m) (omega arith)
-        | no m ↦ rw (le-leb a n l, le-ltb n b (omega arith)) (omega arith)
-      ]
-      | no l ↦ rw (lt-leb a n (omega arith)) (omega arith)
-    ]
-
--- a run covers as many cells as it has
-pub run-covers : (n : ℕ) (r : Run) → end r ≤ n → sum n (λ t. cond (covers r t) 1 0) ≡ r .size
-run-covers n r h = interval n (r .start) (end r) (omega arith) ∙ omega arith
 
 -- how many positions of block b cover cell t
 covered : Line → ℕ → ℕ → ℕ
@@ -92,7 +73,7 @@ module _ (z : Puzzle) (G : Good z) (l : ℕ) (h : l < lines z) where
       ∙ sum-swap (lengthAt z l) (many L) (λ t b. covered L b t)
       ∙ sum-same (many L) _ _ (λ b k.
       sum-swap (lengthAt z l) (L .positions) (λ t i. cond (covers (placedAt L b i) t) 1 0)
-      ∙ sum-same (L .positions) _ (λ i. at (L .runs) b .size) (λ i m. run-covers (lengthAt z l) (placedAt L b i) (inside b (omega (arith, many-is)) i m))
+      ∙ sum-same (L .positions) _ (λ i. at (L .runs) b .size) (λ i m. covers-cells (lengthAt z l) (placedAt L b i) (inside b (omega (arith, many-is)) i m))
       ∙ sum-constant (L .positions) (at (L .runs) b .size))
 
 -- ---- over the cells of the board

@@ -23,7 +23,7 @@ use Rattle.puzzles.specs.Good.{Good}
 use Rattle.numbering.specs.Variables.{Line, lineAt, many, placedAt, firstOf, variable}
 use Rattle.numbering.specs.Tables.{Sound}
 use Rattle.numbering.proofs.Bounds.{line-sound}
-use Rattle.numbering.proofs.SoundLines.{sound-clash, sound-distance}
+use Rattle.numbering.proofs.SoundLines.{sound-meets}
 use Rattle.placement.specs.Placement.{blockPositions, blockOnce, nonOverlap, ruled, ofLines}
 use Rattle.placement.specs.declared.rule.Rule.{Rule}
 use Rattle.placement.specs.declared.rule.Rule.the-variants.{Positions, Once, Overlap}
@@ -70,9 +70,9 @@ module _ {L : Line} (S : Sound L) where
       let d = distance gap (at (L .runs) a) (at (L .runs) b) in
       length-product (L .positions) _
       ∙ sum-same (L .positions) _ (λ i. i + 1 - d) (λ i k.
-      sum-same (L .positions) _ (λ j. cond (leb (j + d) i) 1 0) (λ j m. length-when (clash gap (placedAt L a i) (placedAt L b j)) _ ∙ rw (sound-clash S a b h l i j))
-      ∙ behind d i (L .positions) (sound-distance S a b h l) k)
-      ∙ triangle-count d (sound-distance S a b h l) (L .positions)
+      sum-same (L .positions) _ (λ j. cond (leb (j + d) i) 1 0) (λ j m. length-when (clash gap (placedAt L a i) (placedAt L b j)) _ ∙ rw (sound-meets S a b h l .meets i j))
+      ∙ behind d i (L .positions) (sound-meets S a b h l .some) k)
+      ∙ triangle-count d (sound-meets S a b h l .some) (L .positions)
 
   overlap-length : length (nonOverlap L) ≡ overlapIn L
   unfolding nonOverlap overlapIn overlapAt overlapPair sumPairs

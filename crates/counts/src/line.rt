@@ -2,7 +2,7 @@
 use crate::measure::Measure;
 use boards::table::clue_end;
 use lists::wide;
-use placement::overlap::distance;
+use numbering::line::distance_of;
 ghost use mathlib.Core.Path.{_≡_};
 ghost use Prim.Native.Nat.{_+_, _-_, _*_, _/_, _≤_, _<_};
 ghost use lib.ListN.{length};
@@ -33,7 +33,7 @@ fn later_count(a: usize, line: &[u32], clue: &[u32]) -> usize
     let p = wide(line[2]);
     let mut total = 0;
     for k in 0..clue.len() / 2 - (a + 1) {
-        total += pair_count(p, distance(line, clue, a, a + 1 + k));
+        total += pair_count(p, distance_of(line, clue, a, a + 1 + k));
     }
     total
 }

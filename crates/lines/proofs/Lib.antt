@@ -2,6 +2,7 @@ pub mod Arranging
 pub mod Checks
 pub mod ClueWords
 pub mod Coloring
+pub mod Covering
 pub mod Growing
 pub mod Laying
 pub mod LineCells

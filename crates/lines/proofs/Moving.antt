@@ -10,7 +10,7 @@ use lib.ListN.{length}
 use lib.Dec.{leb, ltb, eqb}
 use borrow.Author.Tests.{eq-eqb, ne-eqb, le-leb, lt-leb, lt-ltb, leb-true, ltb-true, ltb-false, le-ltb}
 use Rattle.lines.specs.Clue.{Block, Run, end, gap, packed, minSpace, positions, conflict}
-use Rattle.lines.specs.Arrangement.{Gap, Proper, at, moved, covers, clash, distance}
+use Rattle.lines.specs.Arrangement.{Gap, Proper, at, moved, covers, behind, clash, distance, Meets}
 use Rattle.lines.proofs.Packing.{packed-apart, packed-within}
 
 -- two tests that follow from each other
@@ -29,6 +29,10 @@ covers-is r t h =
 pub is-covered : (r : Run) (t : ℕ) → r .start ≤ t → t < end r → covers r t ≡ true
 is-covered r t a b = rw (le-leb (r .start) t a, lt-ltb t (end r) b)
 
+-- from a position behind the cell on, none covers it
+pub behind-none : (r : Run) (t i j : ℕ) → behind (moved r i) t ≡ true → i ≤ j → covers (moved r j) t ≡ false
+behind-none r t i j h l = rw (lt-leb (r .start + j) t (omega (arith, ltb-true t (r .start + i) h)))
+
 -- document 01's conflict: same colour, end1 >= start2; different colours, end1 > start2
 pub conflict-same : (c e s : ℕ) → conflict gap c e c s ≡ leb s e
 unfolding conflict gap
@@ -37,6 +41,13 @@ conflict-same c e s = rw (eq-eqb c c refl) (leb-same (suc s) (e + 1) s e (λ l. 
 pub conflict-other : (c e d s : ℕ) → (c ≡ d → ⊥) → conflict gap c e d s ≡ ltb s e
 unfolding conflict gap
 conflict-other c e d s h = rw (ne-eqb c d h, add-zero)
+
+-- two runs of different colours that cover one cell are in conflict
+pub covers-clash : (r q : Run) (t : ℕ) → (r .color ≡ q .color → ⊥) → covers r t ≡ true → covers q t ≡ true → clash gap r q ≡ true
+covers-clash r q t other a b =
+    let u = covers-is r t a in
+    let v = covers-is q t b in
+    conflict-other (r .color) (end r) (q .color) (q .start) other ∙ lt-ltb (q .start) (end r) (omega arith)
 
 -- no conflict, in numbers
 pub clear-is : (g : ℕ → ℕ → ℕ) (r q : Run) → clash g r q ≡ false → end r + g (r .color) (q .color) ≤ q .start
@@ -51,6 +62,17 @@ is-clear g r q h = le-ltb (q .start) (end r + g (r .color) (q .color)) h
 pub distance-is : (g : ℕ → ℕ → ℕ) (r q : Run) → q .start - end r + 1 - g (r .color) (q .color) ≡ distance g r q
 unfolding distance
 distance-is g r q = refl
+
+-- two runs that are not in conflict meet where the earlier one is ahead by their distance
+pub distance-meets : {g : ℕ → ℕ → ℕ} → Gap g → (r q : Run) → clash g r q ≡ false → Meets g r q (distance g r q)
+unfolding distance conflict
+distance-meets {g} G r q h =
+    let m = G .most (r .color) (q .color) in
+    let u = clear-is g r q h in
+    record {
+      some = omega arith;
+      meets = λ i j. leb-same (suc (q .start + j)) (r .start + i + r .size + g (r .color) (q .color)) (j + distance g r q) i (λ x. omega arith) (λ x. omega arith);
+    }
 
 -- document 01's distance: the later start minus the earlier end, plus 1 if the colours differ
 pub distance-base : (r q : Run) → distance gap r q ≡ q .start - end r + cond (eqb (r .color) (q .color)) 0 1
@@ -74,21 +96,14 @@ module _ {g : ℕ → ℕ → ℕ} (G : Gap g) {bs : List Block} (p : Proper bs)
   moved-within n h i l b m = omega (arith, packed-within G p b m)
 
   module _ (a b : ℕ) (h : a < b) (l : b < length bs) where
-    -- a distance is 1 or more
-    pub distance-some : 0 < distance g (at (packed g bs) a) (at (packed g bs) b)
-    unfolding distance
-    distance-some = omega (arith, packed-apart G p a b h l, G .most (at (packed g bs) a .color) (at (packed g bs) b .color))
+    -- two blocks of the packed line are not in conflict
+    pub packed-clear : clash g (at (packed g bs) a) (at (packed g bs) b) ≡ false
+    packed-clear = is-clear g (at (packed g bs) a) (at (packed g bs) b) (packed-apart G p a b h l)
 
-    -- two blocks are in conflict when the earlier one is ahead by their distance
-    pub clash-is : (i j : ℕ) → clash g (moved (at (packed g bs) a) i) (moved (at (packed g bs) b) j) ≡ leb (j + distance g (at (packed g bs) a) (at (packed g bs) b)) i
-    unfolding distance conflict
-    clash-is i j =
-        let r = at (packed g bs) a in
-        let q = at (packed g bs) b in
-        let m = G .most (r .color) (q .color) in
-        let u = packed-apart G p a b h l in
-        leb-same (suc (q .start + j)) (r .start + i + r .size + g (r .color) (q .color)) (j + distance g r q) i (λ x. omega arith) (λ x. omega arith)
+    -- and at their positions they meet by their distance
+    pub packed-meets : Meets g (at (packed g bs) a) (at (packed g bs) b) (distance g (at (packed g bs) a) (at (packed g bs) b))
+    packed-meets = distance-meets G (at (packed g bs) a) (at (packed g bs) b) packed-clear
 
     -- never at equal positions
     pub level : (i : ℕ) → clash g (moved (at (packed g bs) a) i) (moved (at (packed g bs) b) i) ≡ false
-    level i = clash-is i i ∙ lt-leb (i + distance g (at (packed g bs) a) (at (packed g bs) b)) i (omega (arith, distance-some))
+    level i = packed-meets .meets i i ∙ lt-leb (i + distance g (at (packed g bs) a) (at (packed g bs) b)) i (omega (arith, packed-meets .some))

@@ -35,6 +35,10 @@ moved r i = record { start = r .start + i; size = r .size; color = r .color }
 abbrev pub covers : Run → ℕ → Bool
 covers r t = leb (r .start) t && ltb t (end r)
 
+-- it begins behind the cell t
+abbrev pub behind : Run → ℕ → Bool
+behind r t = ltb t (r .start)
+
 -- an earlier run is in conflict with a later one
 abbrev pub clash : (ℕ → ℕ → ℕ) → Run → Run → Bool
 clash gap r q = conflict gap (r .color) (end r) (q .color) (q .start)
@@ -42,6 +46,11 @@ clash gap r q = conflict gap (r .color) (end r) (q .color) (q .start)
 -- by how much the earlier of two packed runs must move ahead of the later one to meet it
 unfoldable pub distance : (ℕ → ℕ → ℕ) → Run → Run → ℕ
 distance gap r q = q .start - end r + 1 - gap (r .color) (q .color)
+
+-- of two runs, i and j cells to the right, the earlier is in conflict with the later exactly where it is d or more ahead
+pub record Meets (gap : ℕ → ℕ → ℕ) (r q : Run) (d : ℕ) : Type 0 where
+  pub some : 0 < d
+  pub meets : (i j : ℕ) → clash gap (moved r i) (moved q j) ≡ leb (j + d) i
 
 -- each block b at its position o b: within the line, and no two in conflict
 pub record Arranged (gap : ℕ → ℕ → ℕ) (n : ℕ) (bs : List Block) (o : ℕ → ℕ) : Type 0 where

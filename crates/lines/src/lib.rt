@@ -3,4 +3,5 @@ pub mod clue;
 pub mod gap;
 pub mod limits;
 pub mod line;
+pub mod meet;
 pub mod range;

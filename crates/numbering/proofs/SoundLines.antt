@@ -1,17 +1,17 @@
 -- What holds of a sound line: its numbers are small, its blocks stay inside, and two positions are in conflict by their distance.
 use mathlib.Core.Path.{_≡_, refl, sym, ap, _∙_}
+use mathlib.Core.Bool.{false}
 use mathlib.Core.List.{List}
 use Prim.Native.Nat.{ℕ, _+_, _*_, _/_, _≤_, _<_}
 use native.Mathlib.Omega.{arith}
-use lib.Dec.{leb}
 use lib.ListN.{length, getD}
 use Rattle.lists.specs.Each.{sum}
 use Rattle.lists.proofs.Eaches.{length-tab, getD-tab}
 use Rattle.lists.proofs.Parts.{part-within}
 use Rattle.lines.specs.Clue.{end, gap, minSpace}
-use Rattle.lines.specs.Arrangement.{at, clash, distance}
-use Rattle.lines.proofs.Packing.{base-gap, packed-length, packed-apart, sizes-within, blocks-within}
-use Rattle.lines.proofs.Moving.{positions-some, positions-space, moved-within, clash-is, distance-some}
+use Rattle.lines.specs.Arrangement.{at, clash, distance, Meets}
+use Rattle.lines.proofs.Packing.{base-gap, packed-length, sizes-within, blocks-within}
+use Rattle.lines.proofs.Moving.{positions-some, positions-space, moved-within, packed-clear, packed-meets}
 use Rattle.numbering.specs.Variables.{Line, many, placedAt, firstOf}
 use Rattle.numbering.specs.Tables.{lineOf, Sound}
 
@@ -26,6 +26,9 @@ module _ {L : Line} (S : Sound L) where
 
   pub sound-some : 0 < L .positions
   sound-some = rw (S .positions-are) (positions-some gap (S .cells) (S .clue))
+
+  pub sound-few : many L ≤ 64
+  sound-few = omega (arith, sound-shared, sound-some)
 
   -- the sizes of its blocks are within its cells
   pub sound-sizes : sum (many L) (λ b. at (L .runs) b .size) ≤ 64
@@ -52,19 +55,19 @@ module _ {L : Line} (S : Sound L) where
         inside : end (placedAt L b i) ≤ S .cells
         inside = rw (S .runs-are) (moved-within base-gap (S .proper) (S .cells) (S .fits) i (rw (S .positions-are) at l) b below)
 
+    pub sound-start : at (L .runs) b .start ≤ 64
+    sound-start = omega (arith, sound-within 0 sound-some)
+
   -- two of its blocks
   module _ (a b : ℕ) (h : a < b) (l : b < many L) where
     below′ : b < length (S .clue)
     below′ = omega (arith, many-is)
 
-    pub sound-apart : end (at (L .runs) a) + gap (at (L .runs) a .color) (at (L .runs) b .color) ≤ at (L .runs) b .start
-    sound-apart = rw (S .runs-are) (packed-apart base-gap (S .proper) a b h below′)
+    pub sound-clear : clash gap (at (L .runs) a) (at (L .runs) b) ≡ false
+    sound-clear = rw (S .runs-are) (packed-clear base-gap (S .proper) a b h below′)
 
-    pub sound-distance : 0 < distance gap (at (L .runs) a) (at (L .runs) b)
-    sound-distance = rw (S .runs-are) (distance-some base-gap (S .proper) a b h below′)
-
-    pub sound-clash : (i j : ℕ) → clash gap (placedAt L a i) (placedAt L b j) ≡ leb (j + distance gap (at (L .runs) a) (at (L .runs) b)) i
-    sound-clash i j = rw (S .runs-are) (clash-is base-gap (S .proper) a b h below′ i j)
+    pub sound-meets : Meets gap (at (L .runs) a) (at (L .runs) b) (distance gap (at (L .runs) a) (at (L .runs) b))
+    sound-meets = rw (S .runs-are) (packed-meets base-gap (S .proper) a b h below′)
 
 -- ---- the words that hold a line
 

@@ -1,4 +1,6 @@
 // The colours of a puzzle in order: the ranks by which the variables of its cells are numbered.
+pub mod line;
+
 use bits::mask::has;
 ghost use Prim.Native.Nat.{_≤_};
 ghost use lib.ListN.{length};

@@ -4,13 +4,10 @@ use mathlib.Core.Bool.{true}
 use Prim.Native.Nat.{ℕ}
 use native.Mathlib.Omega.{arith}
 use native.Mathlib.Decide.{decLt}
-use borrow.Author.Tests.{leb-true, ltb-true, lt-ltb}
-use Rattle.lists.proofs.Tests.{both}
 use Rattle.truth.specs.Truth.{Assignment}
-use lib.Dec.{leb, ltb}
-use Rattle.lines.specs.Clue.{gap, end}
-use Rattle.lines.specs.Arrangement.{at, clash}
-use Rattle.lines.proofs.Moving.{conflict-other}
+use Rattle.lines.specs.Clue.{gap}
+use Rattle.lines.specs.Arrangement.{clash}
+use Rattle.lines.proofs.Moving.{covers-clash}
 use Rattle.numbering.specs.Variables.{Line, lineAt, placedAt, variable, hue}
 use Rattle.pictures.specs.Meaning.{NoConflict, Covers, NineFollows}
 use Rattle.pictures.proofs.ColorsOfK.{hue-once}
@@ -18,11 +15,7 @@ use Rattle.pictures.proofs.EachFamily.{meanings}
 
 -- two blocks of different colours that cover one cell are in conflict
 overlap : (L : Line) {c d t a i b j : ℕ} → (c ≡ d → ⊥) → Covers L c t a i → Covers L d t b j → clash gap (placedAt L a i) (placedAt L b j) ≡ true
-overlap L {c} {d} {t} {a} {i} {b} {j} other A B =
-    let u = both (leb (placedAt L a i .start) t) (ltb t (end (placedAt L a i))) (A .covered) in
-    let v = both (leb (placedAt L b j .start) t) (ltb t (end (placedAt L b j))) (B .covered) in
-    conflict-other (at (L .runs) a .color) (end (placedAt L a i)) (at (L .runs) b .color) (placedAt L b j .start) (λ e. other (sym (A .color-is) ∙ e ∙ B .color-is))
-    ∙ lt-ltb (placedAt L b j .start) (end (placedAt L a i)) (omega (arith, ltb-true t (end (placedAt L a i)) (u .1), leb-true (placedAt L b j .start) t (v .0)))
+overlap L {t = t} {a = a} {i = i} {b = b} {j = j} other A B = covers-clash (placedAt L a i) (placedAt L b j) t (λ e. other (sym (A .color-is) ∙ e ∙ B .color-is)) (A .covered) (B .covered)
 
 -- so no two of them are both there
 module _ (β : Assignment) (L : Line) (N : NoConflict β L) {c d t a i b j : ℕ} (other : c ≡ d → ⊥) (A : Covers L c t a i) (B : Covers L d t b j) where

@@ -11,9 +11,9 @@ use Rattle.sections.specs.Sections.{atLeastOne, atMostOne, row}
 use Rattle.numbering.specs.Variables.{Line, many}
 use Rattle.numbering.specs.Tables.{Sound, lineOf}
 use Rattle.numbering.proofs.SoundLines.{of-many}
-use Rattle.placement.specs.Placement.{blockPositions, blockOnce}
-use Rattle.placement.specs.PairRows.{rowsFrom, laterRows}
-use Rattle.placement.proofs.BlockLoops.{rowsOf, first-is, positions-is, in-range, blocks-are, later-are}
+use Rattle.placement.specs.Placement.{blockPositions, blockOnce, conflicts}
+use Rattle.placement.specs.PairRows.{rowsFrom, laterPairs}
+use Rattle.placement.proofs.BlockLoops.{first-is, positions-is, in-range, blocks-are, later-are}
 use Rattle.placement.proofs.RowLaw.{rows-late}
 use Rattle.placed.specs.Known.{Known}
 
@@ -44,9 +44,9 @@ module _ (line clue : List ℕ) (S : Sound (lineOf line clue)) {first p : ℕ} (
   unfolding blockOnce
   once-are = blocks-are line clue S fe pe atMostOne
 
-  pub later-rest : (a : ℕ) → laterRows L a ≡ rest (a + 1) (length clue / 2) (rowsOf L first p a)
+  pub later-rest : (a : ℕ) → laterPairs L a ≡ rest (a + 1) (length clue / 2) (conflicts L a)
   unfolding rest
-  later-rest a = later-are line clue S fe pe a
+  later-rest a = later-are line clue S a
 
 pub rows-rest : (va vb d p : ℕ) → rowsFrom va vb d p ≡ rest d p (λ i. row (va + i) vb (i + 1 - d))
 unfolding rest

@@ -1,6 +1,6 @@
 // Families 5 and 6, of one line: whether a model has no two blocks in conflict.
 use lists::wide;
-use placement::overlap::distance;
+use numbering::line::distance_of;
 use truth::Tested;
 use truth::test_row;
 ghost use mathlib.Core.Path.{_≡_};
@@ -10,7 +10,7 @@ ghost use Rattle.truth.specs.Truth.{value};
 ghost use Rattle.truth.specs.Tested.{tested, said, Countable};
 ghost use Rattle.numbering.specs.Tables.{Sound, lineOf};
 ghost use Rattle.placement.specs.Placement.{nonOverlap};
-ghost use Rattle.placement.specs.PairRows.{rowsFrom, laterRows};
+ghost use Rattle.placement.specs.PairRows.{rowsFrom, laterPairs};
 ghost use Rattle.placed.specs.Known.{Known};
 
 // The p positions from va on, each with those from vb on that it meets: the first d meet none.
@@ -34,14 +34,14 @@ fn test_rows(model: &[u8], va: usize, vb: usize, d: usize, p: usize, at: usize) 
 fn test_later(a: usize, model: &[u8], line: &[u32], clue: &[u32], at: usize) -> Tested
     requires { ⌜ Sound (lineOf (now line) (now clue)) × Known (length (now model)) (lineOf (now line) (now clue)) × (68 ≤ length (now line)) ⌝ }
     requires { ⌜ a < length (now clue) / 2 ⌝ }
-    requires { ⌜ Countable at (laterRows (lineOf (now line) (now clue)) a) ⌝ }
-    ensures { λ r. ⌜ said r ≡ tested (value (now (model .entry))) at (laterRows (lineOf (now (line .entry)) (now (clue .entry))) a) ⌝ }
+    requires { ⌜ Countable at (laterPairs (lineOf (now line) (now clue)) a) ⌝ }
+    ensures { λ r. ⌜ said r ≡ tested (value (now (model .entry))) at (laterPairs (lineOf (now (line .entry)) (now (clue .entry))) a) ⌝ }
 {
     let first = wide(line[1]);
     let p = wide(line[2]);
     let mut to = at;
     for b in a + 1..clue.len() / 2 {
-        let d = distance(line, clue, a, b);
+        let d = distance_of(line, clue, a, b);
         let pair = test_rows(model, first + a * p, first + b * p, d, p, to);
         let Tested::Fine(next) = pair else {
             return pair;

@@ -13,51 +13,21 @@ use Rattle.literals.specs.Literals.{largest}
 use Rattle.sections.specs.Sections.{Clause, clausesWords, atLeastOne, atMostOne}
 use Rattle.sections.proofs.ClauseLists.{say-first, say-done, say-from, say-from-done}
 use Rattle.lines.specs.Clue.{gap}
-use Rattle.lines.specs.Arrangement.{at}
-use Rattle.lines.proofs.Moving.{distance-is}
+use Rattle.lines.specs.Arrangement.{at, Meets}
 use Rattle.numbering.specs.Variables.{Line, many, firstOf}
 use Rattle.numbering.specs.Tables.{Sound, lineOf}
-use Rattle.numbering.proofs.SoundLines.{sound-shared, sound-some, sound-least, sound-most, sound-within, sound-apart, of-many, of-run, of-first, of-positions}
-use Rattle.placement.specs.Placement.{blockPositions, blockOnce, nonOverlap}
-use Rattle.placement.specs.PairRows.{apart, rowsFrom, laterRows}
-use Rattle.placement.proofs.RowLaw.{non-overlap-later}
+use Rattle.numbering.proofs.SoundLines.{sound-least, sound-most, of-many, of-first, of-positions}
+use Rattle.placement.specs.Placement.{blockPositions, blockOnce, conflicts, nonOverlap}
+use Rattle.placement.specs.PairRows.{rowsFrom, laterPairs}
+use Rattle.placement.proofs.RowLaw.{conflicts-rows, non-overlap-later}
 
 -- the n variables from v on are some
 abbrev pub InRange : ℕ → ℕ → Type 0
 InRange v n = (0 < v) × (v + n ≤ largest + 1)
 
--- the rows of a pair, by the line's first variable and its positions
-abbrev pub rowsOf : Line → ℕ → ℕ → ℕ → ℕ → List Clause
-rowsOf L first p a b = rowsFrom (first + a * p) (first + b * p) (apart L a b) p
-
--- the words of a pair of blocks: those of the later one are there, and the earlier one ends before it starts
-pub record PairWords (line clue : List ℕ) (a b : ℕ) : Type 0 where
-  pub few : b < 64
-  pub ends : getD line (4 + a) 0 + getD clue (2 * a) 0 ≤ getD line (4 + b) 0
-  pub starts : getD line (4 + b) 0 ≤ 64
-
 module _ (line clue : List ℕ) (S : Sound (lineOf line clue)) where
   abbrev L : Line
   L = lineOf line clue
-
-  -- ---- the words of a pair
-
-  module _ (a b : ℕ) (h : a < b) (below : b < length clue / 2) where
-    known : b < many L
-    known = omega (arith, of-many line clue)
-
-    pub pair-words : PairWords line clue a b
-    pair-words =
-        let ra = of-run line clue a (omega (arith, known)) in
-        let rb = of-run line clue b known in
-        record {
-          few = omega (arith, known, sound-shared S, sound-some S);
-          ends = omega (arith, rw (ra, rb) at (sound-apart S a b h known));
-          starts = omega (arith, rw rb at (sound-within S b known 0 (sound-some S)));
-        }
-
-    pub apart-is : getD line (4 + b) 0 - (getD line (4 + a) 0 + getD clue (2 * a) 0) + 1 - gap (getD clue (2 * a + 1) 0) (getD clue (2 * b + 1) 0) ≡ apart L a b
-    apart-is = rw (of-run line clue a (omega (arith, known)), of-run line clue b known) (distance-is gap _ _)
 
   -- ---- its first variable and its positions, as they are read
 
@@ -106,26 +76,32 @@ module _ (line clue : List ℕ) (S : Sound (lineOf line clue)) where
     unfolding blockOnce
     once-done E h = blocks-done atMostOne E h
 
-    module _ (a : ℕ) where
-      pub later-are : laterRows L a ≡ each (length clue / 2 - (a + 1)) (λ k. rowsOf L first p a (a + 1 + k))
-      unfolding laterRows
-      later-are = rw (of-many line clue, first-is, positions-is, add-one a)
+    -- a pair of blocks, by how far the earlier one must be ahead
+    pub pair-is : (a b : ℕ) {d : ℕ} → Meets gap (at (L .runs) a) (at (L .runs) b) d → conflicts L a b ≡ rowsFrom (first + a * p) (first + b * p) d p
+    pair-is a b M = rw (first-is, positions-is) (conflicts-rows L a b M)
 
-      pub later-first : (out : List ℤ) (to : ℕ) → to + length (clausesWords (laterRows L a)) ≤ length out
-          → EmittingFrom (a + 1) (length clue / 2) (λ b. clausesWords (rowsOf L first p a b)) out to out to (a + 1)
-      later-first out to h = say-from (a + 1) (length clue / 2) (rowsOf L first p a) out to (rw (← later-are) h)
+  -- ---- a block with each later one
 
-      pub later-done : {out₀ out : List ℤ} {to₀ to b : ℕ} → EmittingFrom (a + 1) (length clue / 2) (λ b. clausesWords (rowsOf L first p a b)) out₀ to₀ out to b
-          → length clue / 2 ≤ b → Wrote (clausesWords (laterRows L a)) out₀ to₀ out to
-      later-done E h = rw later-are (say-from-done (a + 1) (length clue / 2) (rowsOf L first p a) E h)
+  module _ (a : ℕ) where
+    pub later-are : laterPairs L a ≡ each (length clue / 2 - (a + 1)) (λ k. conflicts L a (a + 1 + k))
+    unfolding laterPairs
+    later-are = rw (of-many line clue, add-one a)
+
+    pub later-first : (out : List ℤ) (to : ℕ) → to + length (clausesWords (laterPairs L a)) ≤ length out
+        → EmittingFrom (a + 1) (length clue / 2) (λ b. clausesWords (conflicts L a b)) out to out to (a + 1)
+    later-first out to h = say-from (a + 1) (length clue / 2) (conflicts L a) out to (rw (← later-are) h)
+
+    pub later-done : {out₀ out : List ℤ} {to₀ to b : ℕ} → EmittingFrom (a + 1) (length clue / 2) (λ b. clausesWords (conflicts L a b)) out₀ to₀ out to b
+        → length clue / 2 ≤ b → Wrote (clausesWords (laterPairs L a)) out₀ to₀ out to
+    later-done E h = rw later-are (say-from-done (a + 1) (length clue / 2) (conflicts L a) E h)
 
   -- ---- each block with the later ones
 
-  pub overlaps-are : nonOverlap L ≡ each (length clue / 2) (laterRows L)
-  overlaps-are = rw (← of-many line clue) (non-overlap-later S)
+  pub overlaps-are : nonOverlap L ≡ each (length clue / 2) (laterPairs L)
+  overlaps-are = rw (← of-many line clue) (non-overlap-later L)
 
-  pub overlaps-first : (out : List ℤ) (to : ℕ) → to + length (clausesWords (nonOverlap L)) ≤ length out → Emitting (length clue / 2) (λ a. clausesWords (laterRows L a)) out to out to 0
+  pub overlaps-first : (out : List ℤ) (to : ℕ) → to + length (clausesWords (nonOverlap L)) ≤ length out → Emitting (length clue / 2) (λ a. clausesWords (laterPairs L a)) out to out to 0
   overlaps-first out to h = say-first (length clue / 2) _ out to (rw (← overlaps-are) h)
 
-  pub overlaps-done : {out₀ out : List ℤ} {to₀ to a : ℕ} → Emitting (length clue / 2) (λ a. clausesWords (laterRows L a)) out₀ to₀ out to a → length clue / 2 ≤ a → Wrote (clausesWords (nonOverlap L)) out₀ to₀ out to
+  pub overlaps-done : {out₀ out : List ℤ} {to₀ to a : ℕ} → Emitting (length clue / 2) (λ a. clausesWords (laterPairs L a)) out₀ to₀ out to a → length clue / 2 ≤ a → Wrote (clausesWords (nonOverlap L)) out₀ to₀ out to
   overlaps-done E h = rw overlaps-are (say-done (length clue / 2) _ E h)

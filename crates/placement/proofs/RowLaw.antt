@@ -1,5 +1,5 @@
 -- The law of the row: document 01's conflicts of a pair of blocks, as clauses of one position with the first positions of the later block.
-use mathlib.Core.Path.{_≡_, _∙_}
+use mathlib.Core.Path.{_≡_, refl, _∙_}
 use mathlib.Core.Bool.{Bool}
 use mathlib.Core.List.{List, [], _∷_}
 use Prim.Native.Nat.{ℕ, suc, _+_, _-_, _≤_, _<_}
@@ -14,11 +14,11 @@ use Rattle.lists.specs.Each.{each, tab, pairs, product, when}
 use Rattle.lists.specs.Wrote.{Wrote}
 use Rattle.lists.proofs.Eaches.{each-same, each-late, each-early}
 use Rattle.sections.specs.Sections.{clausesWords, notBoth, row}
+use Rattle.lines.specs.Clue.{gap}
+use Rattle.lines.specs.Arrangement.{at, Meets}
 use Rattle.numbering.specs.Variables.{Line, many, firstOf, variable}
-use Rattle.numbering.specs.Tables.{Sound}
-use Rattle.numbering.proofs.SoundLines.{sound-distance, sound-clash}
-use Rattle.placement.specs.Placement.{nonOverlap}
-use Rattle.placement.specs.PairRows.{apart, rowsFrom, pairRows, laterRows}
+use Rattle.placement.specs.Placement.{conflicts, nonOverlap}
+use Rattle.placement.specs.PairRows.{rowsFrom, laterPairs}
 
 row-none : (x y n : ℕ) → n ≡ 0 → row x y n ≡ []
 unfolding row tab each
@@ -47,18 +47,13 @@ module _ (va vb d p : ℕ) where
 
 -- ---- a line
 
-module _ {L : Line} (S : Sound L) where
-  pub non-overlap-rows : nonOverlap L ≡ pairs (many L) (pairRows L)
-  unfolding nonOverlap pairs product
-  non-overlap-rows =
-      each-same (many L) _ _ (λ a h.
-      each-same (many L - suc a) _ _ (λ k l.
-      let m : suc a + k < many L = omega arith in
-      each-same (L .positions) _ _ (λ i n.
-      row-is (L .positions) (apart L a (suc a + k)) i (variable L a i) (firstOf L (suc a + k)) _ (sound-distance S a (suc a + k) (omega arith) m) n
-      (sound-clash S a (suc a + k) (omega arith) m i))))
+module _ (L : Line) where
+  -- the conflicts of two blocks, where the earlier one meets the later from d ahead on
+  pub conflicts-rows : (a b : ℕ) {d : ℕ} → Meets gap (at (L .runs) a) (at (L .runs) b) d → conflicts L a b ≡ rowsFrom (firstOf L a) (firstOf L b) d (L .positions)
+  unfolding product
+  conflicts-rows a b {d} M = each-same (L .positions) _ _ (λ i h. row-is (L .positions) d i (variable L a i) (firstOf L b) _ (M .some) h (M .meets i))
 
   -- block by block
-  pub non-overlap-later : nonOverlap L ≡ each (many L) (laterRows L)
-  unfolding pairs laterRows
-  non-overlap-later = non-overlap-rows
+  pub non-overlap-later : nonOverlap L ≡ each (many L) (laterPairs L)
+  unfolding nonOverlap pairs laterPairs
+  non-overlap-later = refl

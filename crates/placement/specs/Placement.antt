@@ -18,12 +18,14 @@ blockPositions L = tab (many L) (λ b. atLeastOne (firstOf L b) (L .positions))
 unfoldable pub blockOnce : Line → List Clause
 blockOnce L = each (many L) (λ b. atMostOne (firstOf L b) (L .positions))
 
--- 5, 6: per block pair, per position pair in conflict: not both
+-- of two blocks, per position pair in conflict: not both
+abbrev pub conflicts : Line → ℕ → ℕ → List Clause
+conflicts L a b =
+    product (L .positions) (λ i j. when (clash gap (placedAt L a i) (placedAt L b j)) (notBoth (variable L a i) (variable L b j) ∷ []))
+
+-- 5, 6: that per block pair
 unfoldable pub nonOverlap : Line → List Clause
-nonOverlap L =
-    pairs (many L) (λ a b.
-    product (L .positions) (λ i j.
-    when (clash gap (placedAt L a i) (placedAt L b j)) (notBoth (variable L a i) (variable L b j) ∷ [])))
+nonOverlap L = pairs (many L) (conflicts L)
 
 unfoldable pub ruled : Rule → Line → List Clause
 ruled Positions L = blockPositions L

@@ -1,5 +1,5 @@
 // Families 1 to 6: the positions of a line's blocks.
 mod line;
-pub mod overlap;
+mod overlap;
 pub mod rule;
 pub mod section;

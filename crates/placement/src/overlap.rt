@@ -1,8 +1,7 @@
 // Families 5 and 6, of one line: two blocks are not in conflict.
-use lines::gap::gap;
 use lists::wide;
+use numbering::line::distance_of;
 use sections::put_row;
-ghost use mathlib.Core.Path.{_≡_};
 ghost use Prim.Native.Nat.{_+_, _/_, _≤_, _<_};
 ghost use lib.ListN.{length};
 ghost use Rattle.lists.specs.Wrote.{Wrote};
@@ -10,17 +9,7 @@ ghost use Rattle.literals.specs.Literals.{largest};
 ghost use Rattle.sections.specs.Sections.{clausesWords};
 ghost use Rattle.numbering.specs.Tables.{Sound, lineOf};
 ghost use Rattle.placement.specs.Placement.{nonOverlap};
-ghost use Rattle.placement.specs.PairRows.{apart, rowsFrom, laterRows};
-
-// How far block a must be ahead of the later block b to meet it.
-pub fn distance(line: &[u32], clue: &[u32], a: usize, b: usize) -> usize
-    requires { ⌜ Sound (lineOf (now line) (now clue)) × (68 ≤ length (now line)) ⌝ }
-    requires { ⌜ (a < b) × (b < length (now clue) / 2) ⌝ }
-    ensures { λ r. ⌜ r ≡ apart (lineOf (now (line .entry)) (now (clue .entry))) a b ⌝ }
-{
-    let end = wide(line[4 + a]) + wide(clue[2 * a]);
-    wide(line[4 + b]) - end + 1 - wide(gap(clue[2 * a + 1], clue[2 * b + 1]))
-}
+ghost use Rattle.placement.specs.PairRows.{rowsFrom, laterPairs};
 
 // The p positions from va on, each with those from vb on that it meets: the first d meet none.
 fn put_rows(va: usize, vb: usize, d: usize, p: usize, out: &mut [i32], at: usize) -> usize
@@ -39,14 +28,14 @@ fn put_rows(va: usize, vb: usize, d: usize, p: usize, out: &mut [i32], at: usize
 fn later_clauses(a: usize, line: &[u32], clue: &[u32], out: &mut [i32], at: usize) -> usize
     requires { ⌜ Sound (lineOf (now line) (now clue)) × (68 ≤ length (now line)) ⌝ }
     requires { ⌜ a < length (now clue) / 2 ⌝ }
-    requires { ⌜ at + length (clausesWords (laterRows (lineOf (now line) (now clue)) a)) ≤ length (now out) ⌝ }
-    ensures { λ r. ⌜ Wrote (clausesWords (laterRows (lineOf (now (line .entry)) (now (clue .entry))) a)) (now (out .entry)) at (now (out .exit)) r ⌝ }
+    requires { ⌜ at + length (clausesWords (laterPairs (lineOf (now line) (now clue)) a)) ≤ length (now out) ⌝ }
+    ensures { λ r. ⌜ Wrote (clausesWords (laterPairs (lineOf (now (line .entry)) (now (clue .entry))) a)) (now (out .entry)) at (now (out .exit)) r ⌝ }
 {
     let first = wide(line[1]);
     let p = wide(line[2]);
     let mut to = at;
     for b in a + 1..clue.len() / 2 {
-        let d = distance(line, clue, a, b);
+        let d = distance_of(line, clue, a, b);
         to = put_rows(first + a * p, first + b * p, d, p, out, to);
     }
     to

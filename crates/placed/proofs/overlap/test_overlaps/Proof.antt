@@ -4,14 +4,14 @@ use Rattle.truth.specs.Truth.{value}
 use Rattle.truth.proofs.Testing.{Testing, testing-first, testing-room, testing-stop, testing-next, testing-done}
 use Rattle.numbering.specs.Tables.{lineOf}
 use Rattle.placement.specs.Placement.{nonOverlap}
-use Rattle.placement.specs.PairRows.{laterRows}
+use Rattle.placement.specs.PairRows.{laterPairs}
 use Rattle.placement.proofs.BlockLoops.{overlaps-are}
 use borrow.Author.Needs.{needs}
 use Rattle.placed.proofs.overlap.test_overlaps.Statement.{statement}
 use Rattle.placed.proofs.overlap.test_overlaps.Tie as tie
 
 abbrev Inv-loop : tie.InvT-loop
-Inv-loop model line clue at to₀ a₀ a-end to a = Testing (value model) at (nonOverlap (lineOf line clue)) (length clue / 2) (laterRows (lineOf line clue)) to a
+Inv-loop model line clue at to₀ a₀ a-end to a = Testing (value model) at (nonOverlap (lineOf line clue)) (length clue / 2) (laterPairs (lineOf line clue)) to a
 
 abbrev μ-loop : tie.MeasureT-loop
 μ-loop model line clue at to₀ a₀ a-end to a = length clue / 2 - a

@@ -3,14 +3,14 @@ use lib.ListN.{length}
 use Rattle.lists.proofs.Emitting.{Emitting, emit-room, emit-next, emit-kept}
 use Rattle.sections.specs.Sections.{clausesWords}
 use Rattle.numbering.specs.Tables.{lineOf}
-use Rattle.placement.specs.PairRows.{laterRows}
+use Rattle.placement.specs.PairRows.{laterPairs}
 use Rattle.placement.proofs.BlockLoops.{overlaps-first, overlaps-done}
 use borrow.Author.Needs.{needs}
 use Rattle.placement.proofs.overlap.non_overlap_clauses.Statement.{statement}
 use Rattle.placement.proofs.overlap.non_overlap_clauses.Tie as tie
 
 abbrev Inv-loop : tie.InvT-loop
-Inv-loop line clue out₀ at to₀ a₀ a-end out to a = Emitting (length clue / 2) (λ k. clausesWords (laterRows (lineOf line clue) k)) out₀ at out to a
+Inv-loop line clue out₀ at to₀ a₀ a-end out to a = Emitting (length clue / 2) (λ k. clausesWords (laterPairs (lineOf line clue) k)) out₀ at out to a
 
 abbrev μ-loop : tie.MeasureT-loop
 μ-loop line clue out₀ at to₀ a₀ a-end out to a = length clue / 2 - a

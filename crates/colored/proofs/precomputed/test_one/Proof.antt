@@ -1,8 +1,8 @@
 use Rattle.truth.proofs.RowTests.{one-true, one-false}
 use mathlib.Core.Path.{_∙_}
 use borrow.Author.Needs.{needs}
-use Rattle.colored.proofs.support.test_one.Statement.{statement}
-use Rattle.colored.proofs.support.test_one.Tie as tie
+use Rattle.colored.proofs.precomputed.test_one.Statement.{statement}
+use Rattle.colored.proofs.precomputed.test_one.Tie as tie
 
 pub test-one-spec : {M : Type 1} → statement M
 test-one-spec = tie.close (tie.spec

@@ -1,6 +1,6 @@
 use borrow.Author.Tests.{eq-eqb, ne-eqb}
-use Rattle.colored.proofs.section.pick.Statement.{statement}
-use Rattle.colored.proofs.section.pick.Tie as tie
+use Rattle.colored.proofs.side.pick.Statement.{statement}
+use Rattle.colored.proofs.side.pick.Tie as tie
 
 pub pick-spec : {M : Type 1} → statement M
 pick-spec = tie.close (tie.spec
