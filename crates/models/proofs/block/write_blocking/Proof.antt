@@ -1,6 +1,6 @@
 use lib.IntN.{pos}
-use Rattle.models.proofs.Negating.{blocking-wrote}
-use Rattle.models.proofs.Counting.{trues-negated, trues-most}
+use Rattle.models.proofs.Negating.{blocking-wrote, trues-negated}
+use Rattle.checker.proofs.Counting.{trues-most}
 use Rattle.literals.proofs.Words.{word-is}
 use Rattle.truth.specs.Truth.{value}
 use mathlib.Core.Path.{_∙_, ap}
