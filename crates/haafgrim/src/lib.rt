@@ -139,7 +139,7 @@ pub extern "C" fn haafgrim_probes(
 ) -> u32
     ensures { λ r. ⌜ Probes (now (puzzle .entry)) (now (probe .entry)) (now (out .entry)) r (now (place .exit)) (now (out .exit)) ⌝ }
 {
-    let answer = probes::call::probes(puzzle, probe, out);
+    let answer = implications::call::probes(puzzle, probe, out);
     *place = answer.place();
     answer.number()
 }
