@@ -1,6 +1,6 @@
 // A model's refusals in document 01's order: 13, 14, 15, 16.
-use crate::count::check_bytes;
 use crate::count::check_cells;
+use crate::count::check_values;
 use crate::families::test_sections;
 use boards::board::Board;
 use refusals::Answer;
@@ -37,7 +37,7 @@ pub fn check(words: &[u32], table: &[u32], board: Board, colors: &[u32], model: 
     if model.len() != variables {
         return Answer::Refused(Refusal::ModelLength(variables));
     }
-    let bytes = check_bytes(model);
+    let bytes = check_values(model);
     let Answer::Accepted(_) = bytes else {
         return bytes;
     };

@@ -9,7 +9,7 @@ ghost use Rattle.refusals.specs.Told.{checked};
 ghost use Rattle.truth.specs.Truth.{value};
 ghost use Rattle.checker.specs.Models.{trues, valueChecks, cellChecks};
 
-pub fn check_bytes(model: &[u8]) -> Answer
+pub fn check_values(model: &[u8]) -> Answer
     ensures { λ r. ⌜ checked r ≡ valueChecks (now (model .entry)) ⌝ }
 {
     for i in 0..model.len() {

@@ -10,9 +10,9 @@ use Rattle.lists.specs.Each.{each}
 use Rattle.sections.specs.Sections.{Clause, clausesWords, clauseWords}
 use Rattle.boards.specs.declared.board.Board.{Board}
 use Rattle.numbering.specs.Variables.{palette}
-use Rattle.implications.specs.declared.count.Size.{Size}
+use Rattle.implications.specs.declared.count.Extent.{Extent}
 use Rattle.implied.specs.ByWords.{ofProbe, ofProbes, placeAt, wordsAt}
-use Rattle.implications.specs.Sizes.{Sized}
+use Rattle.implications.specs.Sizes.{ExtentIs}
 use Rattle.probes.proofs.AcceptedProbes.{Accepted}
 use Rattle.implications.proofs.ProbePlaces.{next-place, next-within, slice-is, slice-length}
 use Rattle.implications.proofs.ProbeSizes.{sized-most}
@@ -32,7 +32,7 @@ unfolding each placeAt flatMap
 counting-first b us h = record { within = omega arith; place-is = refl; place-most = h; clauses-is = refl; words-is = refl; clauses-most = omega arith; words-most = omega arith }
 
 module _ {b : Board} {us : List ℕ} {clauses words i l : ℕ} (C : Counting b us clauses words i l) where
-  pub counting-done : getD us 0 0 ≤ l → Sized (ofProbes b (palette (b .colors)) us) (record { clauses = clauses; words = words })
+  pub counting-done : getD us 0 0 ≤ l → ExtentIs (ofProbes b (palette (b .colors)) us) (record { clauses = clauses; words = words })
   unfolding ofProbes
   counting-done h = let e : l ≡ getD us 0 0 = omega (arith, C .within) in record { clauses-is = rw e at (C .clauses-is); words-is = rw e at (C .words-is) }
 
@@ -40,12 +40,12 @@ module _ {b : Board} {us : List ℕ} {clauses words i l : ℕ} (C : Counting b u
   counted-most h = (omega (arith, C .clauses-most, C .place-most), omega (arith, C .words-most, C .place-most))
 
   module _ (small : b .colors < 2 ^ 32) (A : Accepted (b .width) (b .height) (b .colors) us) (h : l < getD us 0 0) {c : ℕ} (e : c ≡ getD us (i + 3) 0)
-      {size : Size} (S : Sized (ofProbe b (palette (b .colors)) (take (i + 4 + 3 * c - i) (drop i us))) size) where
+      {size : Extent} (S : ExtentIs (ofProbe b (palette (b .colors)) (take (i + 4 + 3 * c - i) (drop i us))) size) where
     pub counting-next : Counting b us (clauses + size .clauses) (words + size .words) (i + 4 + 3 * c) (l + 1)
     unfolding each
     counting-next =
         let f : ℕ → List Clause = λ k. ofProbe b (palette (b .colors)) (wordsAt us k) in
-        let T : Sized (f l) size = rw (slice-is A (C .place-is) h e) at S in
+        let T : ExtentIs (f l) size = rw (slice-is A (C .place-is) h e) at S in
         let most = sized-most b (b .colors) small (take (i + 4 + 3 * c - i) (drop i us)) S in
         let n = slice-length A (C .place-is) h e in
         record {

@@ -24,13 +24,13 @@ use Rattle.numbering.proofs.Palettes.{palette-most}
 use Rattle.counts.proofs.Summing.{Summing, summing-first, summing-done}
 use Rattle.counts.proofs.OverColors.{over-colors, over-one}
 use Rattle.counts.proofs.Literals.{HasEach, each-has, map-has}
-use Rattle.implications.specs.declared.count.Size.{Size}
+use Rattle.implications.specs.declared.count.Extent.{Extent}
 use Rattle.probes.specs.Probes.{isColor}
 use Rattle.probes.specs.Words.{claimAt}
 use Rattle.implied.proofs.CellClauses.{premise-most}
 use Rattle.implied.specs.Implications.{premiseOf, implied, impactOf}
 use Rattle.implied.specs.ByWords.{firstOf, premiseIn, ofImpacts, ofProbe}
-use Rattle.implications.specs.Sizes.{impactCount, impactsCount, Sized}
+use Rattle.implications.specs.Sizes.{impactCount, impactsCount, ExtentIs}
 
 -- ---- the colours of a set that are c
 
@@ -137,14 +137,14 @@ module _ (b : Board) (K : ℕ) (small : K < 2 ^ 32) where
     count-most = omega (arith, sum-most (length (drop 4 ws) / 3) 31 (λ j. impactCount K (getD (drop 4 ws) (3 * j + 2) 0)) (λ j _. impact-most K (getD (drop 4 ws) (3 * j + 2) 0)), length-drop 4 ws)
 
     pub probe-sized : isColor K (getD ws 2 0) ≡ true → (n s : ℕ) → n ≡ count → s ≡ cond (eqb (getD ws 2 0) 0) (length (palette K)) 1
-        → Sized (ofProbe b (palette K) ws) (record { clauses = n; words = n * (s + 2) })
+        → ExtentIs (ofProbe b (palette K) ws) (record { clauses = n; words = n * (s + 2) })
     unfolding ofProbe
     probe-sized known n s e q = record {
       clauses-is = e ∙ sym probe-length;
       words-is = rw (e, q, ← premise-length K small (firstOf b (length (palette K)) (claimAt ws 0)) (getD ws 2 0) known) (sym (impacts-words (premiseIn b (palette K) (claimAt ws 0)) (drop 4 ws)));
     }
 
-    pub sized-most : {size : Size} → Sized (ofProbe b (palette K) ws) size → (size .clauses ≤ 11 * length ws) × (size .words ≤ 363 * length ws)
+    pub sized-most : {size : Extent} → ExtentIs (ofProbe b (palette K) ws) size → (size .clauses ≤ 11 * length ws) × (size .words ≤ 363 * length ws)
     unfolding ofProbe
     sized-most S =
         let premise = premiseIn b (palette K) (claimAt ws 0) in

@@ -9,7 +9,7 @@ use Rattle.lists.specs.Each.{sum}
 use Rattle.sections.specs.Sections.{Clause, clausesWords}
 use Rattle.bits.specs.Bits.{bit}
 use Rattle.numbering.specs.Variables.{palette}
-use Rattle.implications.specs.declared.count.Size.{Size}
+use Rattle.implications.specs.declared.count.Extent.{Extent}
 
 -- a blank impact gives a clause for each colour, a coloured one a single clause if its colour is in K, and else none
 unfoldable pub impactCount : ℕ → ℕ → ℕ
@@ -20,6 +20,6 @@ unfoldable pub impactsCount : ℕ → List ℕ → ℕ
 impactsCount K ws = sum (length ws / 3) (λ j. impactCount K (getD ws (3 * j + 2) 0))
 
 -- the counts that the code keeps of clauses
-pub record Sized (cs : List Clause) (s : Size) : Type 0 where
+pub record ExtentIs (cs : List Clause) (s : Extent) : Type 0 where
   pub clauses-is : s .clauses ≡ length cs
   pub words-is : s .words ≡ length (clausesWords cs)

@@ -10,10 +10,10 @@ ghost use Rattle.refusals.specs.Verdict.{passed};
 ghost use Rattle.numbering.specs.Variables.{palette};
 ghost use Rattle.probes.specs.Probes.{isColor, checksOn};
 ghost use Rattle.implied.specs.ByWords.{ofProbe, ofProbes};
-ghost use Rattle.implications.specs.Sizes.{impactCount, impactsCount, Sized};
+ghost use Rattle.implications.specs.Sizes.{impactCount, impactsCount, ExtentIs};
 
 // Clauses, and their words.
-pub struct Size {
+pub struct Extent {
     pub clauses: usize,
     pub words: usize,
 }
@@ -44,29 +44,29 @@ fn count_impacts(colors: u32, k: usize, impacts: &[u32]) -> usize
 }
 
 // Of a probe's words: each clause has a count, the literals of the premise, and one literal more.
-fn count_probe(board: Board, k: usize, part: &[u32]) -> Size
+fn count_probe(board: Board, k: usize, part: &[u32]) -> Extent
     requires { ⌜ (k ≡ length (palette (board .colors))) × (4 ≤ length (now part)) × (length (now part) ≤ 1048576) ⌝ }
     requires { ⌜ isColor (board .colors) (getD (now part) 2 0) ≡ true ⌝ }
-    ensures { λ r. ⌜ Sized (ofProbe board (palette (board .colors)) (now (part .entry))) r ⌝ }
+    ensures { λ r. ⌜ ExtentIs (ofProbe board (palette (board .colors)) (now (part .entry))) r ⌝ }
 {
     let clauses = count_impacts(board.colors, k, &part[4..]);
     if part[2] == 0 {
-        return Size {
+        return Extent {
             clauses,
             words: clauses * (k + 2),
         };
     }
-    Size {
+    Extent {
         clauses,
         words: clauses * 3,
     }
 }
 
 // Of accepted words.
-pub fn count_probes(board: Board, k: usize, probe: &[u32]) -> Size
+pub fn count_probes(board: Board, k: usize, probe: &[u32]) -> Extent
     requires { ⌜ passed ≡ checksOn (board .width) (board .height) (board .colors) (now probe) ⌝ }
     requires { ⌜ k ≡ length (palette (board .colors)) ⌝ }
-    ensures { λ r. ⌜ Sized (ofProbes board (palette (board .colors)) (now (probe .entry))) r ⌝ }
+    ensures { λ r. ⌜ ExtentIs (ofProbes board (palette (board .colors)) (now (probe .entry))) r ⌝ }
     ensures { λ r. ⌜ (r .clauses < 2147483648) × (r .words < 2147483648) ⌝ }
 {
     let mut clauses = 0;
@@ -79,5 +79,5 @@ pub fn count_probes(board: Board, k: usize, probe: &[u32]) -> Size
         words += size.words;
         i = next;
     }
-    Size { clauses, words }
+    Extent { clauses, words }
 }

@@ -3,7 +3,7 @@ use boards::board::Board;
 use implied::impact::put_impact;
 use implied::premise::put_premise;
 use lists::wide;
-use literals::number;
+use literals::count_word;
 ghost use mathlib.Core.Path.{_≡_};
 ghost use Prim.Native.Nat.{ℕ, _+_, _*_, _≤_, _<_};
 ghost use lib.ListN.{length};
@@ -82,7 +82,7 @@ pub fn write_probes(
     requires { ⌜ length (sectionWords (ofProbes board (now palette) (now probe))) ≤ length (now out) ⌝ }
     ensures { λ r. ⌜ Wrote (sectionWords (ofProbes board (now (palette .entry)) (now (probe .entry)))) (now (out .entry)) 0 (now (out .exit)) r ⌝ }
 {
-    out[0] = number(count);
+    out[0] = count_word(count);
     let mut to = 1;
     let mut i = 1;
     for l in 0..wide(probe[0]) {

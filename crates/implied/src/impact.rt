@@ -1,6 +1,6 @@
 // What an impact says of one cell behind a premise, by the first of its variables: it has that colour.
+use literals::count_word;
 use literals::no;
-use literals::number;
 use literals::yes;
 ghost use mathlib.Core.List.{[], _∷_, _++_, map};
 ghost use Prim.Native.Nat.{_+_, _≤_, _<_};
@@ -28,7 +28,7 @@ fn put_clause(premise: &[i32], literal: i32, out: &mut [i32], at: usize) -> usiz
     requires { ⌜ at + length (clauseWords (now premise ++ (literal ∷ []))) ≤ length (now out) ⌝ }
     ensures { λ r. ⌜ Wrote (clauseWords (now (premise .entry) ++ (literal ∷ []))) (now (out .entry)) at (now (out .exit)) r ⌝ }
 {
-    out[at] = number(premise.len() + 1);
+    out[at] = count_word(premise.len() + 1);
     let to = copy(premise, out, at + 1);
     out[to] = literal;
     to + 1

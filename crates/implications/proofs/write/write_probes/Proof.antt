@@ -49,4 +49,4 @@ write-probes-spec =
     (λ c. search needs)
     (λ c. (c .before .before .before .before .before .before .before .loop .inv .0, next-place (accepted-probes (c .before .before .before .before .before .before .before .before .before .before .before .before .before .args .board .width) (c .before .before .before .before .before .before .before .before .before .before .before .before .before .args .board .height) (c .before .before .before .before .before .before .before .before .before .before .before .before .before .args .board .colors) (c .before .before .before .before .before .before .before .before .before .before .before .before .before .args .probe .now) (c .before .before .before .before .before .before .before .before .before .before .before .before .before .pre .1 .0)) (c .before .before .before .before .before .before .before .loop .inv .1) (omega (arith, c .before .before .before .before .before .before .before .loop .inv .0, c .before .before .before .before .before .before .loop-test .taken)) (c .before .before .before .before .wide2 .ensures), emit-next (c .before .before .before .before .before .before .before .loop .inv .2) (omega (arith, c .before .before .before .before .before .before .before .loop .inv .0, c .before .before .before .before .before .before .loop-test .taken)) (rw (slice-is (accepted-probes (c .before .before .before .before .before .before .before .before .before .before .before .before .before .args .board .width) (c .before .before .before .before .before .before .before .before .before .before .before .before .before .args .board .height) (c .before .before .before .before .before .before .before .before .before .before .before .before .before .args .board .colors) (c .before .before .before .before .before .before .before .before .before .before .before .before .before .args .probe .now) (c .before .before .before .before .before .before .before .before .before .before .before .before .before .pre .1 .0)) (c .before .before .before .before .before .before .before .loop .inv .1) (omega (arith, c .before .before .before .before .before .before .before .loop .inv .0, c .before .before .before .before .before .before .loop-test .taken)) (c .before .before .before .before .wide2 .ensures)) at (c .before .generate-implications .ensures))))
     (λ c. emit-kept (c .before .loop .inv .2) ∙ simp length-set)
-    (λ c. count-done _ _ (probes-each (c .before .before .before .before .before .before .before .args .board) (c .before .before .before .before .before .before .before .args .palette .now) (c .before .before .before .before .before .before .before .args .probe .now)) (c .before .before .before .before .before .before .before .args .out .now) (c .before .before .before .before .before .before .before .pre .1 .1 .1) _ (word-is (c .before .before .before .before .number .result) (c .before .before .before .before .number .ok) ∙ c .before .before .before .before .number .ensures ∙ ap pos (c .before .before .before .before .before .before .before .pre .1 .1 .0 .0)) (c .before .loop .inv .2) (omega (arith, c .before .loop .inv .0, c .loop-test .left))))
+    (λ c. count-done _ _ (probes-each (c .before .before .before .before .before .before .before .args .board) (c .before .before .before .before .before .before .before .args .palette .now) (c .before .before .before .before .before .before .before .args .probe .now)) (c .before .before .before .before .before .before .before .args .out .now) (c .before .before .before .before .before .before .before .pre .1 .1 .1) _ (word-is (c .before .before .before .before .count-word .result) (c .before .before .before .before .count-word .ok) ∙ c .before .before .before .before .count-word .ensures ∙ ap pos (c .before .before .before .before .before .before .before .pre .1 .1 .0 .0)) (c .before .loop .inv .2) (omega (arith, c .before .loop .inv .0, c .loop-test .left))))

@@ -21,4 +21,4 @@ put-clause-spec =
     (λ c. (literal-room (c .before .before .before .before .args .premise .now) (c .before .before .before .before .args .literal) (c .before .before .before .before .args .out .now) (c .before .before .before .before .args .at) (c .before .before .before .before .pre .1) _ (c .before .copy .ensures)))
     (λ c. search needs)
     (λ c. simp length-set (c .before .copy .kept .1 .0 ∙ simp length-set))
-    (λ c. rw (word-is (c .before .before .before .before .args .literal) (c .before .before .before .before .fits .literal .sfits)) (clause-wrote _ (c .before .before .before .before .args .literal) _ _ (c .before .before .before .before .pre .1) _ (c .before .copy .ensures) (word-is (c .before .before .before .number .result) (c .before .before .before .number .ok) ∙ c .before .before .before .number .ensures))))
+    (λ c. rw (word-is (c .before .before .before .before .args .literal) (c .before .before .before .before .fits .literal .sfits)) (clause-wrote _ (c .before .before .before .before .args .literal) _ _ (c .before .before .before .before .pre .1) _ (c .before .copy .ensures) (word-is (c .before .before .before .count-word .result) (c .before .before .before .count-word .ok) ∙ c .before .before .before .count-word .ensures))))

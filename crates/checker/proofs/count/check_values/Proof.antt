@@ -5,8 +5,8 @@ use lib.ListN.{length}
 use native.Mathlib.Omega.{arith}
 use borrow.Author.Tests.{lt-ltb, le-ltb}
 use borrow.Author.Needs.{needs}
-use Rattle.checker.proofs.count.check_bytes.Statement.{statement}
-use Rattle.checker.proofs.count.check_bytes.Tie as tie
+use Rattle.checker.proofs.count.check_values.Statement.{statement}
+use Rattle.checker.proofs.count.check_values.Tie as tie
 
 abbrev Inv-loop : tie.InvT-loop
 Inv-loop model i₀ i-end i = Searching (λ b. ltb 1 b) 14 0 model i i
@@ -14,8 +14,8 @@ Inv-loop model i₀ i-end i = Searching (λ b. ltb 1 b) 14 0 model i i
 abbrev μ-loop : tie.MeasureT-loop
 μ-loop model i₀ i-end i = length model - i
 
-pub check-bytes-spec : {M : Type 1} → statement M
-check-bytes-spec =
+pub check-values-spec : {M : Type 1} → statement M
+check-values-spec =
     tie.close
     (tie.spec
     Inv-loop
