@@ -1,6 +1,6 @@
 -- Document 01's ten families in order, and what is counted of them.
 use mathlib.Core.List.{List, [], _∷_, _++_, map, flatten}
-use Prim.Native.Nat.{ℕ, _+_}
+use Prim.Native.Nat.{ℕ}
 use lib.IntN.{ℤ}
 use lib.ListN.{length}
 use Rattle.sections.specs.Sections.{Clause, sectionsWords, literals}

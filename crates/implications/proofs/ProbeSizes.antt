@@ -10,10 +10,10 @@ use lib.Dec.{eqb}
 use lib.ListN.{length, drop, getD, length-append, length-map, length-drop}
 use lib.Pow.{pow-mono}
 use borrow.Author.Tests.{eq-eqb, ne-eqb}
-use Rattle.lists.specs.Each.{each, when, sum}
+use Rattle.lists.specs.Each.{when, sum}
 use Rattle.lists.proofs.Sums.{sum-same, sum-constant, sum-most, length-each, length-when}
 use Rattle.literals.specs.Literals.{positive, negative}
-use Rattle.sections.specs.Sections.{Clause, clausesWords, atLeastOne}
+use Rattle.sections.specs.Sections.{Clause, clausesWords}
 use Rattle.sections.proofs.ClauseLists.{clauses-length}
 use Rattle.sections.proofs.Rows.{least-length}
 use Rattle.bits.specs.Bits.{bit}

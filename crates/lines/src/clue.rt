@@ -32,7 +32,7 @@ fn check_blocks(clue: &[u32]) -> Answer
 }
 
 // The end of the last block; 64 sizes of 32 bits do not wrap in 64.
-pub fn min_space(clue: &[u32]) -> u64
+fn min_space(clue: &[u32]) -> u64
     requires { ⌜ length (now clue) / 2 ≤ 64 ⌝ }
     ensures { λ r. ⌜ r ≡ Clue.minSpace Clue.gap (Clue.blocks (now (clue .entry))) ⌝ }
 {
@@ -81,7 +81,7 @@ pub fn positions_number(length: usize, space: usize) -> usize
 }
 
 // Writes the starts of the blocks.
-pub fn block_starts(clue: &[u32], out: &mut [u32], from: usize) -> usize
+fn block_starts(clue: &[u32], out: &mut [u32], from: usize) -> usize
     requires { ⌜ Clue.minSpace Clue.gap (Clue.blocks (now clue)) ≤ 64 ⌝ }
     requires { ⌜ from + length (now clue) / 2 ≤ length (now out) ⌝ }
     ensures { λ r. ⌜ Wrote (Clue.starts (Clue.packed Clue.gap (Clue.blocks (now (clue .entry))))) (now (out .entry)) from (now (out .exit)) r ⌝ }

@@ -1,6 +1,5 @@
 -- What a solver's "no" means: where nothing satisfies the clauses any more, the models whose pictures were blocked show every picture.
-use mathlib.Core.Path.{_≡_, refl, sym, ap, ap₂, _∙_}
-use mathlib.Core.Bool.{false}
+use mathlib.Core.Path.{_≡_, refl, ap}
 use mathlib.Core.List.{List, [], _∷_, map, List-discrete}
 use mathlib.Core.Logic.{_⊎_, inl, inr}
 use Prim.Native.Nat.{ℕ, zero, suc, _<_}
@@ -9,7 +8,7 @@ use native.Mathlib.Decide.{ℕ-discrete}
 use lib.ListN.{length, getD, length-map}
 use Rattle.lists.proofs.Everys.{every-one}
 use Rattle.puzzles.specs.Puzzle.{Puzzle}
-use Rattle.truth.specs.Truth.{Assignment, value}
+use Rattle.truth.specs.Truth.{value}
 use Rattle.pictures.specs.Pictures.{Model, Solves, shown, blocking, member, Blocking, OneToOne, NoOther, ExactlyOne}
 
 -- some element has it, or none has

@@ -1,13 +1,13 @@
 -- A number that is never given: by checks, by what follows them, and by a call.
 use mathlib.Core.Path.{_≡_, refl, sym, _∙_}
 use mathlib.Core.Bool.{Bool, true, false}
-use mathlib.Core.Logic.{_⊎_, inl, inr}
+use mathlib.Core.Logic.{inl, inr}
 use mathlib.Core.List.{List, [], _∷_}
 use Prim.Native.Nat.{ℕ, _+_, _<_}
 use native.Mathlib.Omega.{arith}
 use lib.Dec.{ltb}
 use lib.ListN.{length}
-use Rattle.refusals.specs.Verdict.{Verdict, Checks, accepted, refused, passed, number, refuse, andThen, firstOff}
+use Rattle.refusals.specs.Verdict.{Verdict, Checks, accepted, refused, number, refuse, andThen, firstOff}
 use Rattle.refusals.specs.Walk.{Walk, walked}
 use Rattle.refusals.specs.Outcome.{Outcome, fits, verdict}
 use Rattle.refusals.specs.Stops.{StopsAt, Stopping, Never}

@@ -120,7 +120,7 @@ pub fn put_runs(
 }
 
 // Writes the runs of a line.
-pub fn from_line(line: &[u8], out: &mut [u32]) -> usize
+fn from_line(line: &[u8], out: &mut [u32]) -> usize
     requires { ⌜ (length (now line) ≤ 64) × (length (lineWords (now line)) ≤ length (now out)) ⌝ }
     ensures { λ r. ⌜ Wrote (lineWords (now (line .entry))) (now (out .entry)) 0 (now (out .exit)) r ⌝ }
 {

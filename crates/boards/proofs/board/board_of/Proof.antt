@@ -1,4 +1,4 @@
-use Prim.Native.Nat.{_≤_, _+_, _-_}
+use Prim.Native.Nat.{_≤_, _+_}
 use mathlib.Core.Path.{ap, _≡_, _∙_}
 use Rattle.puzzles.specs.Firsts.{firstAt}
 use Rattle.boards.proofs.Boards.{width-word, height-word, width-some, height-some, rows-within, rows-laid, cells-laid}

@@ -1,5 +1,4 @@
 use mathlib.Core.Path.{sym, ap, _∙_}
-use native.Mathlib.Omega.{arith}
 use Rattle.points.proofs.Masks.{solved-blank, solved-color, solved-other, unsolved-open, unsolved-excluded}
 use Rattle.pointed.proofs.UnitTests.{unit-room, unit-negative, unit-positive, none-tested}
 use mathlib.Core.Bool.{not}

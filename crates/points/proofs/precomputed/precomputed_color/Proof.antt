@@ -1,4 +1,3 @@
-use native.Mathlib.Omega.{arith}
 use mathlib.Core.Path.{sym, _∙_}
 use Rattle.literals.proofs.Words.{word-is}
 use Rattle.points.proofs.Masks.{solved-blank, solved-color, solved-other, unsolved-open, unsolved-excluded, unit-room, unit-wrote, none-wrote}
