@@ -13,8 +13,8 @@ use borrow.Rule.Slice.PartMut.{putMid}
 use Rattle.lists.specs.Wrote.{Wrote}
 use Rattle.lists.proofs.Tests.{cond-most}
 use Rattle.lists.proofs.Writing.{wrote-then, wrote-tail, wrote-there, wrote-before, wrote-at, wrote-kept, tail-is}
-use Rattle.refusals.specs.Verdict.{Verdict, accepted, passed, refuse, andThen}
-use Rattle.refusals.specs.Told.{told, checked}
+use Rattle.refusals.specs.Verdict.{accepted, passed, refuse, andThen}
+use Rattle.refusals.specs.Told.{told}
 use Rattle.refusals.specs.Outcome.{Answers}
 use Rattle.refusals.specs.declared.Refusal.{Refusal}
 use Rattle.refusals.specs.declared.Answer.{Answer}

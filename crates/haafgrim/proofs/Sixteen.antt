@@ -1,5 +1,4 @@
 -- No promise allows 16: most checks do not have it, and a model whose clauses are true has no cell of two colours.
-use mathlib.Core.Path.{_≡_}
 use mathlib.Core.List.{List}
 use Prim.Native.Nat.{ℕ}
 use native.Mathlib.Omega.{arith}

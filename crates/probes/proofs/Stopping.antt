@@ -1,7 +1,7 @@
 -- Where the walk over probe words stops, and that none is refused with 16.
 use mathlib.Core.Path.{_≡_}
 use mathlib.Core.Bool.{Bool, true, false, not}
-use mathlib.Core.Logic.{_⊎_, inr}
+use mathlib.Core.Logic.{inr}
 use mathlib.Core.List.{List}
 use Prim.Native.Nat.{ℕ, _+_}
 use native.Mathlib.Omega.{arith}

@@ -9,7 +9,6 @@ use numbering::palette;
 use refusals::Answer;
 use refusals::Refusal;
 ghost use mathlib.Core.Path.{_≡_};
-ghost use Prim.Native.Nat.{ℕ};
 ghost use Rattle.refusals.specs.Outcome.{Answers};
 ghost use Rattle.refusals.specs.Verdict.{andThen, passed};
 ghost use Rattle.sections.specs.Sections.{sectionWords};

@@ -4,7 +4,7 @@ use boards::board::Board;
 use lists::wide;
 ghost use mathlib.Core.Path.{_≡_};
 ghost use mathlib.Core.Bool.{true};
-ghost use Prim.Native.Nat.{ℕ, _≤_, _<_};
+ghost use Prim.Native.Nat.{_≤_, _<_};
 ghost use lib.ListN.{length, getD};
 ghost use Rattle.refusals.specs.Verdict.{passed};
 ghost use Rattle.numbering.specs.Variables.{palette};

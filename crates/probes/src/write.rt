@@ -5,7 +5,7 @@ use boards::board::Board;
 use lists::wide;
 use literals::number;
 ghost use mathlib.Core.Path.{_≡_};
-ghost use Prim.Native.Nat.{ℕ, _+_, _*_, _≤_, _<_};
+ghost use Prim.Native.Nat.{_+_, _*_, _≤_, _<_};
 ghost use lib.ListN.{length};
 ghost use Rattle.lists.specs.Wrote.{Wrote};
 ghost use Rattle.refusals.specs.Verdict.{passed};

@@ -9,7 +9,7 @@ use lib.ListN.{length, getD}
 use borrow.Author.Tests.{eqb-false, eqb-true, eq-eqb, ne-eqb, le-ltb, ltb-false}
 use Rattle.lists.proofs.Tests.{neither, both, not-false}
 use Rattle.refusals.specs.Verdict.{passed}
-use Rattle.refusals.specs.Walk.{Walk, got, walked, readOr}
+use Rattle.refusals.specs.Walk.{got, walked, readOr}
 use Rattle.refusals.proofs.Answering.{first-accepted, then-accepted}
 use Rattle.refusals.proofs.Offending.{none-off, off-none}
 use Rattle.refusals.proofs.Readers.{walked-is}
@@ -21,7 +21,7 @@ use Rattle.lines.proofs.Checks.{size-within}
 use Rattle.puzzles.specs.Puzzle.{Puzzle, width, height, lines, clueAt, lengthAt, puzzleWords}
 use Rattle.puzzles.specs.Colors.{known, offSolved}
 use Rattle.puzzles.specs.Walk.{readPuzzle}
-use Rattle.puzzles.specs.Checks.{colors, spaceChecks, columnChecks, solvedChecks, spaces, meaningChecks, puzzleOf, checksOf, puzzle, Sectioned, puzzleChecks}
+use Rattle.puzzles.specs.Checks.{colors, spaceChecks, columnChecks, spaces, meaningChecks, puzzleOf, checksOf, puzzle, Sectioned, puzzleChecks}
 use Rattle.puzzles.specs.Good.{Good}
 use Rattle.puzzles.proofs.Readers.{FineClue, FinePuzzle, puzzle-reader}
 use Rattle.puzzles.proofs.Lines.{clue-column, clue-row, each-line, spaces-fit}

@@ -14,7 +14,7 @@ use Rattle.lines.specs.Clue.{gap, minSpace}
 use Rattle.lines.specs.Calls.{offSize, offColor}
 use Rattle.puzzles.specs.Puzzle.{Puzzle, width, height}
 use Rattle.puzzles.specs.Colors.{known, offSolved}
-use Rattle.puzzles.specs.Walk.{readBlock, readMask, readClue, readLines, readCells, readPuzzle}
+use Rattle.puzzles.specs.Walk.{readBlock, readClue, readLines, readCells, readPuzzle}
 use Rattle.puzzles.specs.Checks.{colors, spaceChecks, columnChecks, spaces, meaningChecks, puzzleOf, checksOf}
 use Rattle.puzzles.specs.Stops.{PuzzlePlaces}
 

@@ -1,9 +1,9 @@
 -- Where walks stop: a word, one reader after another, n of them, a count and as many after it, the whole.
 use mathlib.Core.Path.{_≡_, refl, sym, _∙_}
 use mathlib.Core.Bool.{Bool, true, false}
-use mathlib.Core.Logic.{_⊎_, inl, inr}
+use mathlib.Core.Logic.{inl, inr}
 use mathlib.Core.List.{List, [], _∷_}
-use Prim.Native.Nat.{ℕ, zero, suc, _+_, _<_}
+use Prim.Native.Nat.{ℕ, zero, suc, _+_}
 use native.Mathlib.Omega.{arith}
 use native.Mathlib.Nat.{add-zero}
 use lib.Dec.{ltb}
@@ -18,7 +18,7 @@ module _ {B A : Type 0} where
   pub same-stop : {k p m q : ℕ} → _≡_ {A = Walk B A} (stop k p) (stop m q) → (k ≡ m) × (p ≡ q)
   same-stop e = (cc, cc)
 
-  pub got-not : {a : A} {j : ℕ} {us : List B} {k p : ℕ} → got a j us ≡ stop k p → ⊥
+  got-not : {a : A} {j : ℕ} {us : List B} {k p : ℕ} → got a j us ≡ stop k p → ⊥
   got-not e = let z : _≡_ {A = ℕ} 0 1 = cc in omega arith
 
 module _ (n : ℕ) (Other : ℕ → Type 0) where

@@ -1,4 +1,4 @@
-use mathlib.Core.Path.{_≡_, sym, _∙_, ap}
+use mathlib.Core.Path.{sym}
 use native.Mathlib.Omega.{arith}
 use Rattle.refusals.proofs.Answering.{told-checks, answers-refused, answers-short, answers-wrote}
 use Rattle.lines.proofs.Checks.{ClueOk, clue-ok}
