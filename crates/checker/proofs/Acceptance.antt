@@ -10,11 +10,11 @@ use borrow.Author.Tests.{eq-eqb, le-ltb, eqb-true, ltb-false}
 use Rattle.lists.specs.Each.{tab, sum}
 use Rattle.lists.proofs.Eaches.{length-tab, getD-tab}
 use Rattle.lists.proofs.Tests.{not-false}
-use Rattle.refusals.specs.Verdict.{Checks, accepted, refused, passed, andThen}
+use Rattle.refusals.specs.Verdict.{passed}
 use Rattle.refusals.proofs.Answering.{refuse-accepted, then-accepted, first-accepted}
 use Rattle.refusals.specs.Stops.{Never}
 use Rattle.refusals.proofs.Offending.{none-off, off-none}
-use Rattle.refusals.proofs.Never.{accepted-never, refuse-never, then-never, first-never}
+use Rattle.refusals.proofs.Never.{accepted-never, passed-never, refuse-never, then-never, first-never}
 use Rattle.truth.specs.Truth.{Assignment, value, clauseTrue}
 use Rattle.truth.proofs.AllTested.{passed-true, true-passed}
 use Rattle.puzzles.specs.Puzzle.{Puzzle, width, height}
@@ -95,11 +95,6 @@ pictures-shown ws model h e = condition-3 ws h .count .shows (value model) (acce
 
 -- ---- 16 is never given
 
--- where what comes before passes, so that the next cannot be refused with it
-passed-never : (m : ℕ) (u v : Checks) → Never m u → (passed ≡ u → Never m v) → Never m (andThen u v)
-passed-never m (accepted x) v h g = g refl
-passed-never m (refused k p) v h g = h
-
 pub model-never : (z : Puzzle) (model : List ℕ) → Never 16 (modelChecks z model)
 unfolding modelChecks
 model-never z model =
@@ -108,4 +103,4 @@ model-never z model =
     rw (one-passes z β (solved-said z β .0 (passed-true β 0 (clauses z) e) .one-color)) (accepted-never 16) in
     let fourteen = first-never 16 (λ b. ltb 1 b) {k = 14} (λ e. omega arith) 0 model in
     let fifteen = first-never 16 (λ c. not (clauseTrue β c)) {k = 15} (λ e. omega arith) 0 (clauses z) in
-    refuse-never 16 (then-never 16 (passed-never 16 (clauseChecks β (clauses z)) _ fifteen cells) (valueChecks model) fourteen) (not (eqb (length model) (variables z))) (variables z) (λ e. omega arith)
+    refuse-never 16 (then-never 16 (passed-never 16 (clauseChecks β (clauses z)) fifteen cells) (valueChecks model) fourteen) (not (eqb (length model) (variables z))) (variables z) (λ e. omega arith)

@@ -17,14 +17,18 @@ module _ (m : ℕ) where
   pub accepted-never : {A : Type 0} {a : A} → Never m (accepted a)
   accepted-never p e = let z : _≡_ {A = ℕ} 0 1 = cc in omega arith
 
+  -- what follows counts only where the checks before it pass
+  pub passed-never : {A : Type 0} {v : Verdict A} (u : Checks) → Never m u → (passed ≡ u → Never m v) → Never m (andThen u v)
+  passed-never (accepted x) U N q e = N refl q e
+  passed-never (refused k p) U N q e = U q (let x : m ≡ k = cc in let y : q ≡ p = cc in rw (x, y))
+
   module _ {A : Type 0} {v : Verdict A} (N : Never m v) where
     pub refuse-never : (b : Bool) {k : ℕ} (p : ℕ) → (m ≡ k → ⊥) → Never m (refuse b k p v)
     refuse-never true {k} p n q e = n (let x : m ≡ k = cc in x)
     refuse-never false p n q e = N q e
 
-    pub then-never : {B : Type 0} (u : Verdict B) → Never m u → Never m (andThen u v)
-    then-never (accepted b) U q e = N q e
-    then-never (refused k p) U q e = U q (let x : m ≡ k = cc in let y : q ≡ p = cc in rw (x, y))
+    pub then-never : (u : Checks) → Never m u → Never m (andThen u v)
+    then-never u U = passed-never u U (λ e. N)
 
   pub first-never : {A : Type 0} (off : A → Bool) {k : ℕ} → (m ≡ k → ⊥) → (p : ℕ) (l : List A) → Never m (firstOff off k p l)
   unfolding firstOff

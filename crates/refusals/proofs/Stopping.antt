@@ -18,7 +18,7 @@ module _ {B A : Type 0} where
   pub same-stop : {k p m q : ℕ} → _≡_ {A = Walk B A} (stop k p) (stop m q) → (k ≡ m) × (p ≡ q)
   same-stop e = (cc, cc)
 
-  pub got-not : {a : A} {j : ℕ} {us : List B} {k p : ℕ} → got a j us ≡ stop k p → ⊥
+  got-not : {a : A} {j : ℕ} {us : List B} {k p : ℕ} → got a j us ≡ stop k p → ⊥
   got-not e = let z : _≡_ {A = ℕ} 0 1 = cc in omega arith
 
 module _ (n : ℕ) (Other : ℕ → Type 0) where
