@@ -7,7 +7,7 @@ use Prim.Native.Nat.{ℕ, _+_, _<_}
 use native.Mathlib.Omega.{arith}
 use lib.Dec.{ltb}
 use lib.ListN.{length}
-use Rattle.refusals.specs.Verdict.{Verdict, Checks, accepted, refused, number, refuse, andThen, firstOff}
+use Rattle.refusals.specs.Verdict.{Verdict, Checks, accepted, refused, passed, number, refuse, andThen, firstOff}
 use Rattle.refusals.specs.Walk.{Walk, walked}
 use Rattle.refusals.specs.Outcome.{Outcome, fits, verdict}
 use Rattle.refusals.specs.Stops.{StopsAt, Stopping, Never}
