@@ -12,3 +12,4 @@ pub mod Ranges
 pub mod Reading
 pub mod Rendering
 pub mod SameCells
+pub mod Numbers

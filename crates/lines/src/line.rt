@@ -7,7 +7,7 @@ ghost use mathlib.Core.Path.{_≡_};
 ghost use Prim.Native.Nat.{ℕ, _+_, _≤_, _<_};
 ghost use lib.ListN.{length, getD};
 ghost use Rattle.lists.specs.Wrote.{Wrote};
-ghost use Rattle.refusals.specs.Told.{told};
+ghost use Rattle.refusals.specs.Told.{checked};
 ghost use Rattle.refusals.specs.Outcome.{Answers};
 ghost use Rattle.lines.specs.Clue.{words};
 ghost use Rattle.lines.specs.Begins.{begins};
@@ -32,7 +32,7 @@ fn largest(line: &[u8]) -> u8
 
 // The first byte that is no colour.
 fn find_byte(line: &[u8]) -> Answer
-    ensures { λ r. ⌜ told r ≡ byteChecks (now (line .entry)) ⌝ }
+    ensures { λ r. ⌜ checked r ≡ byteChecks (now (line .entry)) ⌝ }
 {
     for i in 0..line.len() {
         if 31 < line[i] {
@@ -44,7 +44,7 @@ fn find_byte(line: &[u8]) -> Answer
 
 // Looks for the first byte that is no colour only where there is one.
 pub fn check_bytes(line: &[u8]) -> Answer
-    ensures { λ r. ⌜ told r ≡ byteChecks (now (line .entry)) ⌝ }
+    ensures { λ r. ⌜ checked r ≡ byteChecks (now (line .entry)) ⌝ }
 {
     if largest(line) <= 31 {
         return Answer::Accepted(0);

@@ -6,9 +6,10 @@ use native.Mathlib.Omega.{arith}
 use lib.ListN.{length, take}
 use Rattle.lists.specs.Wrote.{Wrote}
 use Rattle.lists.proofs.Eaches.{length-tab}
-use Rattle.refusals.specs.Told.{told}
+use Rattle.refusals.specs.Told.{checked}
 use Rattle.refusals.specs.declared.Answer.{Answer}
 use Rattle.refusals.specs.declared.Answer.the-variants.{Accepted}
+use Rattle.refusals.proofs.Answering.{accepted-passed}
 use Rattle.literals.specs.Literals.{largest}
 use Rattle.sections.specs.Sections.{clauseWords}
 use Rattle.truth.specs.Truth.{Assignment}
@@ -72,5 +73,5 @@ module _ {ws table : List ℕ} {board : Board} {colors : List ℕ} (G : Given ws
         blocking-many = omega (arith, count-is, ap length negated-are)
 
   -- an accepted model has a byte for each variable
-  pub accepted-size : (model : List ℕ) (a : Answer) {n : ℕ} → a ≡ Accepted n → told a ≡ modelChecks (puzzle ws) model → length model ≡ N.variables (puzzle ws)
-  accepted-size model a {n} d e = accepted-model (puzzle ws) model (rw d at e) .0 .size
+  pub accepted-size : (model : List ℕ) (a : Answer) {n : ℕ} → a ≡ Accepted n → checked a ≡ modelChecks (puzzle ws) model → length model ≡ N.variables (puzzle ws)
+  accepted-size model a {n} d e = accepted-model (puzzle ws) model (accepted-passed e d) .0 .size

@@ -12,7 +12,7 @@ use Rattle.lists.proofs.Eaches.{length-tab, getD-tab}
 use Rattle.lists.proofs.Sums.{sum-same, length-each, length-when}
 use Rattle.lists.proofs.Tests.{cond-most}
 use Rattle.literals.specs.Literals.{negative}
-use Rattle.refusals.specs.Verdict.{accepted, refused}
+use Rattle.refusals.specs.Verdict.{passed, refused}
 use Rattle.refusals.proofs.Offending.{Searching, searching-found, searching-next, searching-done}
 use Rattle.truth.specs.Truth.{Assignment}
 use Rattle.models.specs.Models.{trues, cellChecks}
@@ -59,5 +59,5 @@ module _ (β : Assignment) (v n k : ℕ) where
       pub pairing-next : trues β (v + i * k) k ≤ 1 → Pairing β v n k (i + 1)
       pairing-next l = searching-next S 0 below (rw (getD-tab n (λ i. trues β (v + i * k) k) 0 i h) (le-ltb _ _ l))
 
-    pub pairing-done : n ≤ i → accepted 0 ≡ cellChecks β v n k
+    pub pairing-done : n ≤ i → passed ≡ cellChecks β v n k
     pairing-done l = searching-done S (omega (arith, length-tab n (λ i. trues β (v + i * k) k)))

@@ -6,15 +6,13 @@ use native.Mathlib.Omega.{arith}
 use native.Mathlib.Nat.{mul-le-mul-right}
 use lib.ListN.{length}
 use borrow.Author.Tests.{eq-eqb, ne-eqb}
-use Rattle.refusals.specs.Verdict.{Verdict, refused, andThen}
-use Rattle.refusals.specs.Told.{told}
+use Rattle.refusals.specs.Verdict.{Checks, refused, andThen}
+use Rattle.refusals.specs.Told.{checked}
 use Rattle.refusals.specs.declared.Refusal.{Refusal}
 use Rattle.refusals.specs.declared.Answer.{Answer}
 use Rattle.refusals.specs.declared.Answer.the-variants.{Accepted, Refused}
-use Rattle.refusals.proofs.Answering.{handed-up, goes-on}
+use Rattle.refusals.proofs.Answering.{handed-on, goes-on}
 use Rattle.truth.specs.Truth.{value}
-use Rattle.truth.specs.Tested.{tested}
-use Rattle.truth.proofs.AllTested.{tested-first}
 use Rattle.puzzles.specs.Puzzle.{Puzzle, width, height}
 use Rattle.puzzles.specs.Checks.{puzzle}
 use Rattle.boards.specs.declared.board.Board.{Board}
@@ -23,7 +21,7 @@ use Rattle.numbering.proofs.Bounds.{cells-most, cells-first, hues-most}
 use Rattle.cells.specs.Given.{Given}
 use Rattle.cells.proofs.BoardCells.{given-shows}
 use Rattle.counts.specs.Families.{clauses}
-use Rattle.models.specs.Models.{valueChecks, cellChecks, modelChecks}
+use Rattle.models.specs.Models.{valueChecks, clauseChecks, cellChecks, modelChecks}
 
 module _ {ws table : List ℕ} {board : Board} {colors : List ℕ} (G : Given ws table board colors) where
   abbrev z : Puzzle
@@ -64,24 +62,24 @@ module _ {ws table : List ℕ} {board : Board} {colors : List ℕ} (G : Given ws
     other-length e d = rw (e, ne-eqb (length model) (variables z) (rw e at d))
 
     module _ (size : length model ≡ variables z) where
-      own-length : modelChecks z model ≡ andThen (valueChecks model) (andThen (tested (value model) 0 (clauses z)) (cellChecks (value model) (board .first) (board .width * board .height) (length colors)))
+      own-length : modelChecks z model ≡ andThen (valueChecks model) (andThen (clauseChecks (value model) (clauses z)) (cellChecks (value model) (board .first) (board .width * board .height) (length colors)))
       unfolding modelChecks
-      own-length = rw (eq-eqb (length model) (variables z) size, tested-first (value model) 0 (clauses z), area-is, G .stands .first-is, given-shows G .hues-are)
+      own-length = rw (eq-eqb (length model) (variables z) size, area-is, G .stands .first-is, given-shows G .hues-are)
 
       -- its cell variables are within it
       pub cells-within : board .first + board .width * board .height * length colors ≤ length model + 1
       cells-within = omega (arith, variables-is, few .some)
 
       -- 14
-      pub bytes-refused : (a : Answer) {why : Refusal} → a ≡ Refused why → told a ≡ valueChecks model → told a ≡ modelChecks z model
-      bytes-refused a d e = handed-up d e _ ∙ sym own-length
+      pub bytes-refused : (a : Answer) {why : Refusal} → a ≡ Refused why → checked a ≡ valueChecks model → checked a ≡ modelChecks z model
+      bytes-refused a d e = handed-on e d _ ∙ sym own-length
 
-      module _ (a : Answer) {n : ℕ} (d : a ≡ Accepted n) (e : told a ≡ valueChecks model) where
+      module _ (a : Answer) {n : ℕ} (d : a ≡ Accepted n) (e : checked a ≡ valueChecks model) where
         -- 15
-        pub clauses-refused : (b : Answer) {why : Refusal} → b ≡ Refused why → told b ≡ tested (value model) 0 (clauses z) → told b ≡ modelChecks z model
-        clauses-refused b q f = handed-up q f _ ∙ goes-on d e _ ∙ sym own-length
+        pub clauses-refused : (b : Answer) {why : Refusal} → b ≡ Refused why → checked b ≡ clauseChecks (value model) (clauses z) → checked b ≡ modelChecks z model
+        clauses-refused b q f = handed-on f q _ ∙ goes-on e d _ ∙ sym own-length
 
         -- 16
-        pub cells-tell : (b : Answer) {m : ℕ} → b ≡ Accepted m → told b ≡ tested (value model) 0 (clauses z)
-            → {v : Verdict} → v ≡ cellChecks (value model) (board .first) (board .width * board .height) (length colors) → v ≡ modelChecks z model
-        cells-tell b q f g = g ∙ goes-on q f _ ∙ goes-on d e _ ∙ sym own-length
+        pub cells-tell : (b : Answer) {m : ℕ} → b ≡ Accepted m → checked b ≡ clauseChecks (value model) (clauses z)
+            → {v : Checks} → v ≡ cellChecks (value model) (board .first) (board .width * board .height) (length colors) → v ≡ modelChecks z model
+        cells-tell b q f g = g ∙ goes-on f q _ ∙ goes-on e d _ ∙ sym own-length

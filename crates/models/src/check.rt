@@ -8,18 +8,17 @@ use refusals::Refusal;
 use truth::Tested;
 ghost use mathlib.Core.Path.{_≡_};
 ghost use lib.ListN.{length};
-ghost use Rattle.refusals.specs.Told.{told};
+ghost use Rattle.refusals.specs.Told.{checked};
 ghost use Rattle.truth.specs.Truth.{value};
-ghost use Rattle.truth.specs.Tested.{tested};
 ghost use Rattle.puzzles.specs.Checks.{puzzle};
 ghost use Rattle.numbering.specs.Variables.{variables};
 ghost use Rattle.cells.specs.Given.{Given};
 ghost use Rattle.counts.specs.Families.{clauses};
-ghost use Rattle.models.specs.Models.{modelChecks};
+ghost use Rattle.models.specs.Models.{clauseChecks, modelChecks};
 
 fn check_clauses(words: &[u32], table: &[u32], board: Board, colors: &[u32], model: &[u8]) -> Answer
     requires { ⌜ Given (now words) (now table) board (now colors) × (length (now model) ≡ variables (puzzle (now words))) ⌝ }
-    ensures { λ r. ⌜ told r ≡ tested (value (now (model .entry))) 0 (clauses (puzzle (now (words .entry)))) ⌝ }
+    ensures { λ r. ⌜ checked r ≡ clauseChecks (value (now (model .entry))) (clauses (puzzle (now (words .entry)))) ⌝ }
 {
     let tests = test_sections(words, table, board, colors, model);
     match tests {
@@ -30,7 +29,7 @@ fn check_clauses(words: &[u32], table: &[u32], board: Board, colors: &[u32], mod
 
 pub fn check(words: &[u32], table: &[u32], board: Board, colors: &[u32], model: &[u8]) -> Answer
     requires { ⌜ Given (now words) (now table) board (now colors) ⌝ }
-    ensures { λ r. ⌜ told r ≡ modelChecks (puzzle (now (words .entry))) (now (model .entry)) ⌝ }
+    ensures { λ r. ⌜ checked r ≡ modelChecks (puzzle (now (words .entry))) (now (model .entry)) ⌝ }
 {
     let k = colors.len();
     let cells = board.width * board.height;

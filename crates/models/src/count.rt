@@ -5,12 +5,12 @@ use truth::on;
 ghost use mathlib.Core.Path.{_≡_};
 ghost use Prim.Native.Nat.{_+_, _*_, _≤_, _<_};
 ghost use lib.ListN.{length};
-ghost use Rattle.refusals.specs.Told.{told};
+ghost use Rattle.refusals.specs.Told.{checked};
 ghost use Rattle.truth.specs.Truth.{value};
 ghost use Rattle.models.specs.Models.{trues, valueChecks, cellChecks};
 
 pub fn check_bytes(model: &[u8]) -> Answer
-    ensures { λ r. ⌜ told r ≡ valueChecks (now (model .entry)) ⌝ }
+    ensures { λ r. ⌜ checked r ≡ valueChecks (now (model .entry)) ⌝ }
 {
     for i in 0..model.len() {
         if 1 < model[i] {
@@ -38,7 +38,7 @@ pub fn count_true(model: &[u8], v: usize, n: usize) -> usize
 // Of n cells of k colours, whose variables begin at v.
 pub fn check_cells(model: &[u8], v: usize, n: usize, k: usize) -> Answer
     requires { ⌜ (0 < v) × (v + n * k ≤ length (now model) + 1) ⌝ }
-    ensures { λ r. ⌜ told r ≡ cellChecks (value (now (model .entry))) v n k ⌝ }
+    ensures { λ r. ⌜ checked r ≡ cellChecks (value (now (model .entry))) v n k ⌝ }
 {
     for i in 0..n {
         if 1 < count_true(model, v + i * k, k) {

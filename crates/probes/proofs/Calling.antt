@@ -5,7 +5,7 @@ use Prim.Native.Nat.{ℕ, _+_}
 use native.Mathlib.Omega.{arith}
 use lib.IntN.{ℤ}
 use lib.ListN.{length}
-use Rattle.refusals.specs.Verdict.{Verdict, accepted, refused, andThen}
+use Rattle.refusals.specs.Verdict.{Checks, accepted, refused, passed, andThen}
 use Rattle.refusals.specs.Outcome.{Answers}
 use Rattle.refusals.specs.declared.Answer.{Answer}
 use Rattle.sections.specs.Sections.{Clause, clausesWords, sectionWords}
@@ -26,8 +26,8 @@ unfolding sectionWords
 section-needs cs e = omega arith
 
 -- what would be written matters only where the checks accept
-answers-same : {A : Type 0} {ws us out out′ : List A} {a : Answer} (v : Verdict) → ((n : ℕ) → accepted n ≡ v → ws ≡ us) → Answers v ws out a out′ → Answers v us out a out′
-answers-same (accepted n) e x = rw (e n refl) at x
+answers-same : {A : Type 0} {ws us out out′ : List A} {a : Answer} (v : Checks) → (passed ≡ v → ws ≡ us) → Answers v ws out a out′ → Answers v us out a out′
+answers-same (accepted u) e x = rw (e refl) at x
 answers-same (refused k p) e x = record { answer-is = x .answer-is; out-is = x .out-is }
 
 by-puzzle : (b : Board) (z : Puzzle) (us : List ℕ) (w h K : ℕ) → w ≡ width z → h ≡ height z → K ≡ colors z → {out out′ : List ℤ} {a : Answer}
@@ -41,7 +41,7 @@ pub answers-probes : {ws table : List ℕ} {b : Board} → Held ws table b → (
 answers-probes {ws} {table} {b} H us x =
     let z = puzzle ws in
     let S = H .stands in
-    let good = accepted-is ws (H .checked) .good in
+    let good = accepted-is 0 ws (H .checked) .good in
     rw (← H .checked)
-    (answers-same (probeChecks z us) (λ n e. ap sectionWords (probes-are (record { good = good; stands = S; hues-are = refl }) us (accepted-probes (width z) (height z) (colors z) us e)))
+    (answers-same (probeChecks z us) (λ e. ap sectionWords (probes-are (record { good = good; stands = S; hues-are = refl }) us (accepted-probes (width z) (height z) (colors z) us e)))
     (by-puzzle b z us (b .width) (b .height) (b .colors) (S .width-is) (S .height-is) (S .colors-is) x))

@@ -8,3 +8,4 @@ pub mod Counting
 pub mod CellClauses
 pub mod ProbeClauses
 pub mod Calling
+pub mod Stopping

@@ -137,8 +137,8 @@ module _ (z : Puzzle) (β : Assignment) where
 
 pub probes-mean : ProbesMean
 unfolding implications
-probes-mean ws us n m e f grid full β extends =
+probes-mean ws us e f grid full β extends =
     let z = puzzle ws in
     let ps = probes z us in
     rw (flat-each noProbe (λ p. flatMap (implication z (p .premise)) (p .impacts)) ps)
-    (each-means β (length ps) _ (λ i h. probe-means z β (accepted-is ws e .good) grid full extends (getD ps i noProbe) (accepted-probes (width z) (height z) (colors z) us f .fine i h)))
+    (each-means β (length ps) _ (λ i h. probe-means z β (accepted-is 0 ws e .good) grid full extends (getD ps i noProbe) (accepted-probes (width z) (height z) (colors z) us f .fine i h)))

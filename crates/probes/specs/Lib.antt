@@ -4,3 +4,4 @@ pub mod Implications
 pub mod Meaning
 pub mod ByWords
 pub mod Sizes
+pub mod Stops

@@ -4,7 +4,7 @@ use mathlib.Core.Logic.{_↔_}
 use mathlib.Core.List.{List, []}
 use Prim.Native.Nat.{ℕ, _+_, _*_, _<_}
 use lib.ListN.{length, getD}
-use Rattle.refusals.specs.Verdict.{accepted}
+use Rattle.refusals.specs.Verdict.{passed}
 use Rattle.truth.specs.Truth.{Assignment, Satisfies}
 use Rattle.puzzles.specs.Puzzle.{Puzzle, width}
 use Rattle.puzzles.specs.Checks.{puzzle, puzzleChecks}
@@ -29,7 +29,7 @@ Implies z grid p =
 -- accepted words of a puzzle and of probes, a grid, and the assignments that extend it
 abbrev pub ProbesMean : Type 0
 ProbesMean =
-    (ws us : List ℕ) (n m : ℕ) → accepted n ≡ puzzleChecks ws → accepted m ≡ probeChecks (puzzle ws) us
+    (ws us : List ℕ) → passed ≡ puzzleChecks ws → passed ≡ probeChecks (puzzle ws) us
     → (grid : List ℕ) → Grid (puzzle ws) grid → (β : Assignment) → Extends (puzzle ws) grid β
     → Satisfies β (implications (puzzle ws) (probes (puzzle ws) us))
     ↔ ((i : ℕ) → i < length (probes (puzzle ws) us) → Implies (puzzle ws) grid (probeAt (probes (puzzle ws) us) i))

@@ -11,7 +11,7 @@ use refusals::Refusal;
 ghost use mathlib.Core.Path.{_≡_};
 ghost use Prim.Native.Nat.{ℕ};
 ghost use Rattle.refusals.specs.Outcome.{Answers};
-ghost use Rattle.refusals.specs.Verdict.{accepted, andThen};
+ghost use Rattle.refusals.specs.Verdict.{andThen, passed};
 ghost use Rattle.sections.specs.Sections.{sectionWords};
 ghost use Rattle.puzzles.specs.Puzzle.{Puzzle};
 ghost use Rattle.puzzles.specs.Good.{Good};
@@ -26,8 +26,8 @@ ghost use Rattle.probes.specs.ByWords.{ofProbes};
 // Once the probes are checked: 12, or the section.
 fn write_section(board: Board, probe: &[u32], out: &mut [i32]) -> Answer
     requires { ⌜ ((z : Puzzle) × Good z × Stands board z) ⌝ }
-    requires { ⌜ ((n : ℕ) × (accepted n ≡ checksOn (board .width) (board .height) (board .colors) (now probe))) ⌝ }
-    ensures { λ r. ⌜ Answers (accepted 0) (sectionWords (ofProbes board (N.palette (board .colors)) (now (probe .entry)))) (now (out .entry)) r (now (out .exit)) ⌝ }
+    requires { ⌜ passed ≡ checksOn (board .width) (board .height) (board .colors) (now probe) ⌝ }
+    ensures { λ r. ⌜ Answers passed (sectionWords (ofProbes board (N.palette (board .colors)) (now (probe .entry)))) (now (out .entry)) r (now (out .exit)) ⌝ }
 {
     let mut colors = [0u32; 31];
     let k = palette(board.colors, &mut colors);

@@ -6,7 +6,7 @@ ghost use mathlib.Core.Path.{_≡_};
 ghost use mathlib.Core.Bool.{true};
 ghost use Prim.Native.Nat.{ℕ, _≤_, _<_};
 ghost use lib.ListN.{length, getD};
-ghost use Rattle.refusals.specs.Verdict.{accepted};
+ghost use Rattle.refusals.specs.Verdict.{passed};
 ghost use Rattle.numbering.specs.Variables.{palette};
 ghost use Rattle.probes.specs.Probes.{isColor, checksOn};
 ghost use Rattle.probes.specs.ByWords.{ofProbe, ofProbes};
@@ -64,7 +64,7 @@ fn count_probe(board: Board, k: usize, part: &[u32]) -> Size
 
 // Of accepted words.
 pub fn count_probes(board: Board, k: usize, probe: &[u32]) -> Size
-    requires { ⌜ ((n : ℕ) × (accepted n ≡ checksOn (board .width) (board .height) (board .colors) (now probe))) ⌝ }
+    requires { ⌜ passed ≡ checksOn (board .width) (board .height) (board .colors) (now probe) ⌝ }
     requires { ⌜ k ≡ length (palette (board .colors)) ⌝ }
     ensures { λ r. ⌜ Sized (ofProbes board (palette (board .colors)) (now (probe .entry))) r ⌝ }
     ensures { λ r. ⌜ (r .clauses < 2147483648) × (r .words < 2147483648) ⌝ }

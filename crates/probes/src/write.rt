@@ -8,7 +8,7 @@ ghost use mathlib.Core.Path.{_≡_};
 ghost use Prim.Native.Nat.{ℕ, _+_, _*_, _≤_, _<_};
 ghost use lib.ListN.{length};
 ghost use Rattle.lists.specs.Wrote.{Wrote};
-ghost use Rattle.refusals.specs.Verdict.{accepted};
+ghost use Rattle.refusals.specs.Verdict.{passed};
 ghost use Rattle.literals.specs.Literals.{largest};
 ghost use Rattle.sections.specs.Sections.{clausesWords, sectionWords};
 ghost use Rattle.puzzles.specs.Puzzle.{Puzzle};
@@ -77,7 +77,7 @@ pub fn write_probes(
     out: &mut [i32],
 ) -> usize
     requires { ⌜ ((z : Puzzle) × Shows board (length (now palette)) z) × (now palette ≡ N.palette (board .colors)) ⌝ }
-    requires { ⌜ ((n : ℕ) × (accepted n ≡ checksOn (board .width) (board .height) (board .colors) (now probe))) ⌝ }
+    requires { ⌜ passed ≡ checksOn (board .width) (board .height) (board .colors) (now probe) ⌝ }
     requires { ⌜ (count ≡ length (ofProbes board (now palette) (now probe))) × (count < 2147483648) ⌝ }
     requires { ⌜ length (sectionWords (ofProbes board (now palette) (now probe))) ≤ length (now out) ⌝ }
     ensures { λ r. ⌜ Wrote (sectionWords (ofProbes board (now (palette .entry)) (now (probe .entry)))) (now (out .entry)) 0 (now (out .exit)) r ⌝ }

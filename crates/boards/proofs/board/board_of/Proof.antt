@@ -1,9 +1,9 @@
 use Prim.Native.Nat.{_≤_, _+_, _-_}
 use mathlib.Core.Path.{ap, _≡_, _∙_}
 use Rattle.puzzles.specs.Firsts.{firstAt}
-use Rattle.boards.proofs.Boards.{accepted-sectioned, width-word, height-word, width-some, height-some, rows-within, rows-laid, cells-laid}
+use Rattle.boards.proofs.Boards.{width-word, height-word, width-some, height-some, rows-within, rows-laid, cells-laid}
 use Rattle.boards.proofs.Finding.{found-within}
-use Rattle.puzzles.proofs.Accepting.{sizes, accepted-is}
+use Rattle.puzzles.proofs.Accepting.{sizes, accepted-sectioned}
 use Rattle.puzzles.specs.Puzzle as P
 use Rattle.puzzles.specs.Checks as C
 use native.Mathlib.Omega.{arith}
@@ -12,7 +12,7 @@ use Rattle.boards.proofs.board.board_of.Statement.{statement}
 use Rattle.boards.proofs.board.board_of.Tie as tie
 
 sectioned : (c : tie.Start) → C.Sectioned (c .args .words .now)
-sectioned c = accepted-sectioned _ (c .pre .0)
+sectioned c = accepted-sectioned _ (c .pre .0 .0)
 
 width-is : (c : tie.After-wide) → c .wide .result ≡ P.width (C.puzzle (c .before .before .before .before .args .words .now))
 width-is c = c .wide .ensures ∙ width-word _ (sectioned (c .before .before .before .before))
@@ -54,4 +54,4 @@ board-of-spec =
     (λ c κs. search needs)
     (λ c κs. found-within _ (sectioned (c .before .before .before .before .before .before .before .before .before .before)) _ (c .before .before .before .before .before .before .before .before .before .before .pre .1 .0) _ (omega (arith, last-is (c .before .before))) (c .wide4 .ensures))
     (λ c κs. ((sectioned (c .before .before .before .before .before .before .before .before .before .before .before), c .before .before .before .before .before .before .before .before .before .before .before .pre .1 .0), (omega (arith, last-is (c .before .before .before)), c .before .before .before .before .before .before .before .before .before .before .before .pre .1 .1)))
-    (λ c. record { width-is = width-is (c .before .before .before .before .before .before .before .before); height-is = height-is (c .before .before .before .before); rows-is = omega (arith, rows-are (c .before .before .before .before .before .before)); cells-is = cells-laid _ (sectioned (c .before .before .before .before .before .before .before .before .before .before .before .before)) _ (c .before .before .before .before .before .before .before .before .before .before .before .before .pre .1 .0) _ (omega (arith, last-is (c .before .before .before .before))) (c .before .before .wide4 .ensures) (c .before .clue-end .ensures); first-is = c .next-first .ensures ∙ ap (firstAt _) (omega (arith, last-is (c .before .before .before .before))); colors-is = accepted-is _ (c .before .before .before .before .before .before .before .before .before .before .before .before .pre .0) .colors-are }))
+    (λ c. record { width-is = width-is (c .before .before .before .before .before .before .before .before); height-is = height-is (c .before .before .before .before); rows-is = omega (arith, rows-are (c .before .before .before .before .before .before)); cells-is = cells-laid _ (sectioned (c .before .before .before .before .before .before .before .before .before .before .before .before)) _ (c .before .before .before .before .before .before .before .before .before .before .before .before .pre .1 .0) _ (omega (arith, last-is (c .before .before .before .before))) (c .before .before .wide4 .ensures) (c .before .clue-end .ensures); first-is = c .next-first .ensures ∙ ap (firstAt _) (omega (arith, last-is (c .before .before .before .before))); colors-is = c .before .before .before .before .before .before .before .before .before .before .before .before .pre .0 .1 }))

@@ -1,6 +1,6 @@
 use mathlib.Core.Path.{refl, sym, _∙_, ap}
 use native.Mathlib.Omega.{arith}
-use Rattle.refusals.specs.Told.{told}
+use Rattle.refusals.specs.Told.{checked}
 use Rattle.refusals.proofs.Answering.{answers-refused, answers-short, answers-wrote}
 use Rattle.lines.proofs.Checks.{length-refused, length-passed, size-within}
 use borrow.Author.Needs.{needs}
@@ -18,7 +18,7 @@ read-line-spec =
     (λ c. search needs)
     (λ c. answers-refused _ _ (c .enum-told2 .given .1) (c .before .before .check-bytes .ensures ∙ length-passed _ (sym (c .before .before .before .before .off-size .ensures) ∙ c .before .before .before .if1 .left)))
     (λ c κs. size-within _ (sym (c .before .before .before .before .off-size .ensures) ∙ c .before .before .before .if1 .left))
-    (λ c. let b = c .before .before .before .before in answers-short _ _ (sym (ap told (c .before .before .enum-told .given .1)) ∙ b .check-bytes .ensures ∙ length-passed _ (sym (b .before .before .off-size .ensures) ∙ b .before .if1 .left)) (c .before .count-words .ensures) (c .if2 .taken))
+    (λ c. let b = c .before .before .before .before in answers-short _ _ (sym (ap checked (c .before .before .enum-told .given .1)) ∙ b .check-bytes .ensures ∙ length-passed _ (sym (b .before .before .off-size .ensures) ∙ b .before .if1 .left)) (c .before .count-words .ensures) (c .if2 .taken))
     (λ c κs. (size-within _ (sym (c .before .before .before .before .before .before .before .off-size .ensures) ∙ c .before .before .before .before .before .before .if1 .left), omega (arith, c .before .before .count-words .ensures)))
     (λ c. c .before .before .from-line .kept .1 .0)
-    (λ c. let b = c .before .before .before .before .before .before .before .before in answers-wrote _ _ (sym (ap told (c .before .before .before .before .before .before .enum-told .given .1)) ∙ b .check-bytes .ensures ∙ length-passed _ (sym (b .before .before .off-size .ensures) ∙ b .before .if1 .left)) (omega (arith, c .before .before .before .before .before .count-words .ensures, c .before .before .before .before .if2 .left)) (c .before .before .from-line .ensures)))
+    (λ c. let b = c .before .before .before .before .before .before .before .before in answers-wrote _ _ (sym (ap checked (c .before .before .before .before .before .before .enum-told .given .1)) ∙ b .check-bytes .ensures ∙ length-passed _ (sym (b .before .before .off-size .ensures) ∙ b .before .if1 .left)) (omega (arith, c .before .before .before .before .before .count-words .ensures, c .before .before .before .before .if2 .left)) (c .before .before .from-line .ensures)))

@@ -1,9 +1,6 @@
 use mathlib.Core.Path.{_≡_, sym, _∙_, ap}
 use native.Mathlib.Omega.{arith}
-use Rattle.refusals.specs.Told.{told}
-use Rattle.refusals.specs.Verdict.{accepted}
-use Rattle.refusals.proofs.Answering.{answers-refused, answers-short, answers-wrote}
-use Rattle.lines.specs.Calls.{clueChecks}
+use Rattle.refusals.proofs.Answering.{told-checks, answers-refused, answers-short, answers-wrote}
 use Rattle.lines.proofs.Checks.{ClueOk, clue-ok}
 use Rattle.lines.proofs.Ranges.{ranges-words-length, ranges-wrote}
 use borrow.Author.Needs.{needs}
@@ -11,11 +8,8 @@ use Rattle.lines.proofs.range.color_ranges.Statement.{statement}
 use Rattle.lines.proofs.range.color_ranges.Tie as tie
 
 -- the clue is accepted
-accepts : (c : tie.After-known-told) → accepted (c .before .checked .given .0 .0) ≡ clueChecks (c .before .before .before .before .before .before .args .length) (c .before .before .before .before .before .before .args .clue .now)
-accepts c = sym (ap told (c .before .checked .given .1)) ∙ c .before .before .before .check-clue .ensures
-
 ok : (c : tie.After-known-told) → ClueOk (c .before .before .before .before .before .before .args .length) (c .before .before .before .before .before .before .args .clue .now) (c .before .checked .given .0 .0)
-ok c = clue-ok _ _ _ (accepts c)
+ok c = clue-ok _ _ (c .before .checked .given .1) (c .before .before .before .check-clue .ensures)
 
 pub color-ranges-spec : {M : Type 1} → statement M
 color-ranges-spec =
@@ -24,13 +18,13 @@ color-ranges-spec =
     (λ c κs. search needs)
     (λ c. search needs)
     (λ c. search needs)
-    (λ c. answers-refused _ _ (c .enum-told .given .1) (c .before .before .check-clue .ensures))
-    (λ c. answers-short _ _ (accepts (c .before)) (sym (ranges-words-length _ _)) (c .if1 .taken))
+    (λ c. answers-refused _ _ (c .enum-told .given .1) (told-checks _ _ (c .enum-told .given .1) (c .before .before .check-clue .ensures)))
+    (λ c. answers-short _ _ (ok (c .before) .passes) (sym (ranges-words-length _ _)) (c .if1 .taken))
     (λ c κs. let k = ok (c .before) in (k .fits, k .most))
     (λ c. omega (arith, c .positions-number .ensures))
     (λ c. omega (arith, ok (c .before .before), c .positions-number .ensures))
     (λ c κs. let k = ok (c .before .before .before) in (omega (arith, k, c .before .positions-number .ensures), search needs))
     (λ c. c .before .before .put-ranges .kept .1 .1 .0)
     (λ c. let b = c .before .before .before .before .before .before in
-    answers-wrote _ _ (accepts b) (omega (arith, ranges-words-length (b .before .before .before .before .before .before .args .length) (b .before .before .before .before .before .before .args .clue .now), c .before .before .before .before .before .if1 .left))
+    answers-wrote _ _ (ok b .passes) (omega (arith, ranges-words-length (b .before .before .before .before .before .before .args .length) (b .before .before .before .before .before .before .args .clue .now), c .before .before .before .before .before .if1 .left))
     (ranges-wrote _ _ (c .before .before .before .before .positions-number .ensures) (ok b .space-is) (c .before .before .put-ranges .ensures))))

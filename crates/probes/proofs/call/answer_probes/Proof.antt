@@ -1,5 +1,5 @@
 use mathlib.Core.Path.{sym, ap, _∙_}
-use Rattle.refusals.specs.Told.{told}
+use Rattle.refusals.specs.Told.{checked}
 use Rattle.refusals.proofs.Answering.{answers-refused, answers-checked}
 use borrow.Author.Needs.{needs}
 use Rattle.probes.proofs.call.answer_probes.Statement.{statement}
@@ -13,6 +13,6 @@ answer-probes-spec =
     (λ c. search needs)
     (λ c. search needs)
     (λ c. answers-refused _ _ (c .enum-told2 .given .1) (c .before .before .check-probes .ensures))
-    (λ c κs. (c .before .before .before .before .before .pre, (_, (sym (ap told (c .before .enum-told .given .1)) ∙ c .before .before .before .check-probes .ensures))))
+    (λ c κs. (c .before .before .before .before .before .pre, sym (ap checked (c .before .enum-told .given .1)) ∙ c .before .before .before .check-probes .ensures))
     (λ c. search needs)
-    (λ c. answers-checked _ _ (sym (ap told (c .before .before .before .enum-told .given .1)) ∙ c .before .before .before .before .before .check-probes .ensures) (c .before .write-section .ensures)))
+    (λ c. answers-checked _ _ (sym (ap checked (c .before .before .before .enum-told .given .1)) ∙ c .before .before .before .before .before .check-probes .ensures) (c .before .write-section .ensures)))

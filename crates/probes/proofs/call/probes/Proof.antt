@@ -13,7 +13,7 @@ probes-spec =
     (λ c κs. search needs)
     (λ c. search needs)
     (λ c. search needs)
-    (λ c κs. let H = (rw (c .before .before .reading2 .given .1) at (c .before .before .before .before .before .read-puzzle .ensures)) in (_, accepted-is _ (H .checked) .good, H .stands))
+    (λ c κs. let H = (rw (c .before .before .reading2 .given .1) at (c .before .before .before .before .before .read-puzzle .ensures)) in (_, accepted-is 0 _ (H .checked) .good, H .stands))
     (λ c. answers-first _ _ _ (rw (c .before .reading .given .1) at (c .before .before .before .before .read-puzzle .ensures)))
     (λ c. search needs)
     (λ c. answers-probes (rw (c .before .before .before .before .reading2 .given .1) at (c .before .before .before .before .before .before .before .read-puzzle .ensures)) _ (c .before .answer-probes .ensures)))
