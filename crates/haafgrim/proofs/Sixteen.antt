@@ -11,7 +11,7 @@ use Rattle.lines.proofs.Numbers.{clue-never, line-never}
 use Rattle.puzzles.specs.Checks.{puzzle, puzzleChecks}
 use Rattle.puzzles.proofs.Stopping.{puzzle-never}
 use Rattle.grids.proofs.Numbers.{size-never, grid-never}
-use Rattle.models.proofs.Acceptance.{model-never}
+use Rattle.checker.proofs.Acceptance.{model-never}
 use Rattle.probes.proofs.Stopping.{probes-never}
 use Rattle.formulas.proofs.Stopping.{words-never}
 use Rattle.haafgrim.specs.Sixteen.{NoSixteen, NeverSixteen}

@@ -13,9 +13,9 @@ use Rattle.sections.specs.Sections.{clauseWords, sectionWords}
 use Rattle.truth.specs.Truth.{value}
 use Rattle.grids.specs.Grid.{sizeChecks, gridChecks, transposed, gridWords}
 use Rattle.pictures.specs.Pictures.{shown, blocking}
-use Rattle.models.specs.Models.{modelChecks}
+use Rattle.checker.specs.Models.{modelChecks}
 use Rattle.probes.specs.Probes.{probeChecks, probes}
-use Rattle.probes.specs.Implications.{implications}
+use Rattle.implied.specs.Implications.{implications}
 use Rattle.formulas.specs.Walk.{wordChecks, clausesOf}
 use Rattle.dimacs.specs.Text.{text}
 

@@ -23,11 +23,12 @@ use Rattle.cells.specs.Given.{Given}
 use Rattle.cells.proofs.BoardCells.{given-shows}
 use Rattle.pictures.specs.Pictures.{shown, blocking}
 use Rattle.pictures.proofs.ColorsOfK.{hue-most}
-use Rattle.models.specs.Models.{trues, modelChecks}
+use Rattle.checker.specs.Models.{trues, modelChecks}
 use Rattle.models.specs.Shown.{cellColors, negated, AreBytes}
-use Rattle.models.proofs.Counting.{trues-negated, trues-most}
-use Rattle.models.proofs.Ordering.{area-is, few, cells-within}
-use Rattle.models.proofs.Acceptance.{accepted-model}
+use Rattle.checker.proofs.Counting.{trues-most}
+use Rattle.models.proofs.Negating.{trues-negated}
+use Rattle.checker.proofs.Ordering.{area-is, few, cells-within}
+use Rattle.checker.proofs.Acceptance.{accepted-model}
 
 -- `&colors[..k]`, where the palette was written
 pub given : {ws table : List ℕ} {board : Board} → Held ws table board → 8704 ≤ length table → {out out′ : List ℕ} {k : ℕ} → Wrote (N.palette (board .colors)) out 0 out′ k

@@ -29,7 +29,7 @@ use Rattle.truth.specs.Truth.{literalTrue, clauseTrue, allTrue, value, Satisfie
 use Rattle.pictures.specs.Pictures.{colorOf, shown, blocking}
 use Rattle.pictures.specs.Meaning.{section}
 use Rattle.pictures.specs.Examples.{p8, p10, p11, p12, level}
-use Rattle.models.specs.Models.{trues, modelChecks}
+use Rattle.checker.specs.Models.{trues, modelChecks}
 use Rattle.haafgrim.specs.Entries.{Clauses, Counts, CheckModel}
 use Rattle.table.specs.Table.{filled, AllHold, table}
 use Rattle.table.specs.Fakes.{sevens, p11-level, apart, crossed, barred, tall, strange, SlipsRuledOut}
