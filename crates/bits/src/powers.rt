@@ -2,13 +2,13 @@
 ghost use mathlib.Core.Path.{_≡_};
 ghost use Rattle.bits.specs.Bits.{powers, joined};
 ghost use Rattle.refusals.specs.Outcome.{Answers};
-ghost use Rattle.refusals.specs.Verdict.{accepted};
+ghost use Rattle.refusals.specs.Verdict.{passed};
 use refusals::Answer;
 use refusals::Refusal;
 
 // Lists the set bits as powers, lowest first.
 pub fn two_powers(mask: u32, out: &mut [u32]) -> Answer
-    ensures { λ r. ⌜ Answers (accepted 0) (powers mask) (now (out .entry)) r (now (out .exit)) ⌝ }
+    ensures { λ r. ⌜ Answers passed (powers mask) (now (out .entry)) r (now (out .exit)) ⌝ }
 {
     let need = u32::count_ones(mask) as usize;
     if out.len() < need {

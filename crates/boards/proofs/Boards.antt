@@ -4,25 +4,25 @@ use mathlib.Core.Bool.{cond}
 use mathlib.Core.List.{List, _++_}
 use Prim.Native.Nat.{ℕ, _+_, _-_, _*_, _<_}
 use native.Mathlib.Omega.{arith}
-use native.Mathlib.Nat.{add-zero}
+use native.Mathlib.Nat.{add-zero, zero-add}
 use lib.Dec.{eqb}
 use lib.ListN.{length, take, drop, getD, length-append, length-drop}
 use lib.Seq.{drop-at, drop-drop, getD-append-add}
 use borrow.Author.Tests.{ne-eqb}
 use Rattle.lists.proofs.Writing.{tail-is}
-use Rattle.refusals.specs.Verdict.{Verdict, accepted, refused, andThen}
-use Rattle.refusals.specs.Told.{told}
+use Rattle.refusals.specs.Verdict.{Verdict, accepted, passed, andThen}
+use Rattle.refusals.specs.Told.{told, checked}
 use Rattle.refusals.specs.declared.Refusal.{Refusal}
 use Rattle.refusals.specs.declared.Answer.{Answer}
-use Rattle.refusals.specs.declared.Answer.the-variants.{Refused}
+use Rattle.refusals.specs.declared.Answer.the-variants.{Accepted, Refused}
 use Rattle.refusals.specs.Walk.{walked}
-use Rattle.refusals.proofs.Answering.{refused-told, handed-up, first-accepted, then-accepted}
+use Rattle.refusals.proofs.Answering.{handed-up, handed-on, accepted-passed, told-checks, told-found, refused-so}
 use Rattle.puzzles.specs.Puzzle.{Puzzle, width, height, lines, linesWords, cellsWords, puzzleWords, rowsAt, cellsAt}
 use Rattle.puzzles.specs.Walk.{readPuzzle}
-use Rattle.puzzles.specs.Checks.{colors, spaceChecks, columnChecks, solvedChecks, spaces, meaningChecks, puzzle, puzzleChecks, Sectioned}
+use Rattle.puzzles.specs.Checks.{colors, columnChecks, solvedChecks, spaces, meaningChecks, puzzle, puzzleChecks, Sectioned}
 use Rattle.boards.specs.declared.table.Parts.{Parts}
 use Rattle.boards.specs.Table.{beginAt, Laid, Found}
-use Rattle.puzzles.proofs.Accepting.{Walked, walked-sections, sectioned-is, size-some}
+use Rattle.puzzles.proofs.Accepting.{Walked, walked-sections, size-some}
 use Rattle.boards.proofs.Beginning.{begin-next, begin-rows, begin-cells}
 
 module _ (z : Puzzle) where
@@ -44,8 +44,8 @@ module _ (z : Puzzle) where
       ∙ drop-at (linesWords (z .rows)) (cellsWords (z .masks)) (length (linesWords (z .rows))) refl
 
 module _ (ws : List ℕ) (S : Sectioned ws) where
-  W : Walked ws
-  W = walked-sections ws S
+  W : Walked 0 ws
+  W = walked-sections 0 ws S
 
   pub width-word : getD ws 0 0 ≡ width (puzzle ws)
   width-word = ap (λ (l : List ℕ). getD l 0 0) (W .words-are) ∙ first-word (puzzle ws)
@@ -90,60 +90,43 @@ module _ (ws : List ℕ) (S : Sectioned ws) where
 
 -- ---- the checks, one after another
 
-pub accepted-sectioned : (ws : List ℕ) {n : ℕ} → accepted n ≡ puzzleChecks ws → Sectioned ws
-accepted-sectioned ws e = sectioned-is ws (first-accepted (walked 11 (readPuzzle ws)) (meaningChecks (puzzle ws)) e .1)
+-- what they tell of a puzzle, and of its words: a refusal, or the colour set
+abbrev Meaning : Puzzle → Verdict ℕ
+Meaning z = andThen (meaningChecks z) (accepted (colors z))
 
--- a refusal before the last step is one whatever follows
-then-refused : (v w w′ : Verdict) {k p : ℕ} → refused k p ≡ andThen v w → (refused k p ≡ w → refused k p ≡ w′) → refused k p ≡ andThen v w′
-then-refused (accepted n) w w′ e h = h e
-then-refused (refused k p) w w′ e h = e
+abbrev Whole : List ℕ → Verdict ℕ
+Whole ws = andThen (puzzleChecks ws) (accepted (colors (puzzle ws)))
 
-pub spaces-off : (z : Puzzle) (n : ℕ) {a : Answer} {why : Refusal} → a ≡ Refused why → told a ≡ spaces z (accepted n) → told a ≡ meaningChecks z
-unfolding spaces meaningChecks
-spaces-off z n {a} {why} r e =
-    let v = andThen (columnChecks (colors z) (z .columns)) (andThen (solvedChecks (colors z) (z .masks)) (accepted (colors z))) in
-    let t = refused-told r in
-    let rows = spaceChecks (width z) (width z) (z .rows) in
-    t
-    ∙ then-refused (spaceChecks (height z) 0 (z .columns)) (andThen rows (accepted n)) (andThen rows v) (sym t ∙ e)
-    (λ f. then-refused rows (accepted n) v f (λ g. let q : _≡_ {A = ℕ} 0 1 = cc in absurd (omega arith)))
+module _ (z : Puzzle) {a : Answer} (t : told a ≡ andThen (spaces z) (accepted (cellsAt z))) where
+  pub spaces-off : {why : Refusal} → a ≡ Refused why → {X : Type 0} → (told a ≡ Meaning z) × (passed ≡ meaningChecks z → X)
+  unfolding meaningChecks
+  spaces-off r = refused-so r _ _ (handed-up (handed-on (told-checks _ (spaces z) r t) r _) r _)
 
-module _ (z : Puzzle) {n : ℕ} (s : accepted n ≡ spaces z (accepted (cellsAt z))) where
-  spaces-pass : (v : Verdict) → spaces z v ≡ v
-  unfolding spaces
-  spaces-pass v =
-      let c = first-accepted (spaceChecks (height z) 0 (z .columns)) _ s in
-      let r = first-accepted (spaceChecks (width z) (width z) (z .rows)) _ (then-accepted (spaceChecks (height z) 0 (z .columns)) _ s) in
-      rw (← c .1, ← r .1)
+  pub spaces-pass : {n : ℕ} → a ≡ Accepted n → (passed ≡ spaces z) × (n ≡ cellsAt z)
+  spaces-pass r = (accepted-passed (told-checks _ (spaces z) r t) r, told-found _ (spaces z) r t)
 
-  pub spaces-place : n ≡ cellsAt z
-  spaces-place = let e = s ∙ spaces-pass (accepted (cellsAt z)) in cc
+module _ (z : Puzzle) (s : passed ≡ spaces z) {K : ℕ} (ke : K ≡ colors z) where
+  meaning : meaningChecks z ≡ andThen (columnChecks K (z .columns)) (solvedChecks K (z .masks))
+  unfolding meaningChecks
+  meaning = rw (← s, ke)
 
-  module _ {K : ℕ} (ke : K ≡ colors z) where
-    meaning : meaningChecks z ≡ andThen (columnChecks K (z .columns)) (andThen (solvedChecks K (z .masks)) (accepted K))
-    unfolding meaningChecks
-    meaning = spaces-pass _ ∙ rw ke
+  pub columns-off : {a : Answer} {why : Refusal} → a ≡ Refused why → checked a ≡ columnChecks K (z .columns) → {X : Type 0} → (told a ≡ Meaning z) × (passed ≡ meaningChecks z → X)
+  columns-off r e = refused-so r _ _ (handed-up (handed-on e r _ ∙ sym meaning) r _)
 
-    pub columns-off : {a : Answer} {why : Refusal} → a ≡ Refused why → told a ≡ columnChecks K (z .columns) → told a ≡ meaningChecks z
-    columns-off {a} r e = handed-up r e _ ∙ sym meaning
+  module _ (c : passed ≡ columnChecks K (z .columns)) where
+    pub cells-off : {a : Answer} {why : Refusal} → a ≡ Refused why → checked a ≡ solvedChecks K (z .masks) → {X : Type 0} → (told a ≡ Meaning z) × (passed ≡ meaningChecks z → X)
+    cells-off r e = refused-so r _ _ (handed-up (e ∙ sym (meaning ∙ rw (← c))) r _)
 
-    module _ {k : ℕ} (c : accepted k ≡ columnChecks K (z .columns)) where
-      pub cells-off : {a : Answer} {why : Refusal} → a ≡ Refused why → told a ≡ solvedChecks K (z .masks) → told a ≡ meaningChecks z
-      cells-off {a} r e = handed-up r e (accepted K) ∙ sym (meaning ∙ rw (← c))
+    pub meaning-done : passed ≡ solvedChecks K (z .masks) → accepted K ≡ Meaning z
+    meaning-done e = rw (meaning, ← c, ← e, ke)
 
-      pub meaning-done : {j : ℕ} → accepted j ≡ solvedChecks K (z .masks) → accepted K ≡ meaningChecks z
-      meaning-done e = sym (meaning ∙ rw (← c, ← e))
+module _ (ws : List ℕ) {a : Answer} (t : told a ≡ andThen (walked 11 (readPuzzle 0 ws)) (accepted (0 + rowsAt (puzzle ws)))) where
+  pub sections-off : {why : Refusal} → a ≡ Refused why → {X : Type 0} → (told a ≡ Whole ws) × (passed ≡ puzzleChecks ws → X)
+  sections-off r = refused-so r _ _ (handed-up (handed-on (told-checks _ (walked 11 (readPuzzle 0 ws)) r t) r _) r _)
 
-module _ (ws : List ℕ) where
-  pub sections-read : {n : ℕ} → accepted n ≡ andThen (walked 11 (readPuzzle ws)) (accepted (rowsAt (puzzle ws))) → Sectioned ws × (n ≡ rowsAt (puzzle ws))
-  sections-read {n} e =
-      let u : accepted n ≡ accepted (rowsAt (puzzle ws)) = then-accepted (walked 11 (readPuzzle ws)) _ e in
-      (sectioned-is ws (first-accepted (walked 11 (readPuzzle ws)) _ e .1), cc)
+  pub sections-read : {n : ℕ} → a ≡ Accepted n → Sectioned ws × (n ≡ rowsAt (puzzle ws))
+  sections-read r = (accepted-passed (told-checks _ (walked 11 (readPuzzle 0 ws)) r t) r, told-found _ (walked 11 (readPuzzle 0 ws)) r t ∙ zero-add (rowsAt (puzzle ws)))
 
-  pub sections-off : {a : Answer} {why : Refusal} → a ≡ Refused why → told a ≡ andThen (walked 11 (readPuzzle ws)) (accepted (rowsAt (puzzle ws))) → told a ≡ puzzleChecks ws
-  sections-off r e =
-      let t = refused-told r in
-      t ∙ then-refused (walked 11 (readPuzzle ws)) (accepted (rowsAt (puzzle ws))) (meaningChecks (puzzle ws)) (sym t ∙ e) (λ g. let q : _≡_ {A = ℕ} 0 1 = cc in absurd (omega arith))
-
-  pub sections-on : Sectioned ws → {v : Verdict} → v ≡ meaningChecks (puzzle ws) → v ≡ puzzleChecks ws
-  sections-on S e = e ∙ rw (← S)
+-- and once they are read
+pub sections-on : (ws : List ℕ) → Sectioned ws → {v : Verdict ℕ} {X : Type 0} → (v ≡ Meaning (puzzle ws)) × (passed ≡ meaningChecks (puzzle ws) → X) → (v ≡ Whole ws) × (passed ≡ puzzleChecks ws → X)
+sections-on ws S m = (m .0 ∙ rw (← S), λ p. m .1 (p ∙ rw (← S)))

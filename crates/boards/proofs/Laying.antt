@@ -13,13 +13,13 @@ use borrow.Rule.Slice.PartMut.{putMid}
 use Rattle.lists.specs.Wrote.{Wrote}
 use Rattle.lists.proofs.Tests.{cond-most}
 use Rattle.lists.proofs.Writing.{wrote-then, wrote-tail, wrote-there, wrote-before, wrote-at, wrote-kept, tail-is}
-use Rattle.refusals.specs.Verdict.{Verdict, accepted, refuse}
-use Rattle.refusals.specs.Told.{told}
+use Rattle.refusals.specs.Verdict.{Verdict, accepted, passed, refuse, andThen}
+use Rattle.refusals.specs.Told.{told, checked}
 use Rattle.refusals.specs.Outcome.{Answers}
 use Rattle.refusals.specs.declared.Refusal.{Refusal}
 use Rattle.refusals.specs.declared.Answer.{Answer}
 use Rattle.refusals.specs.declared.Answer.the-variants.{Accepted, Refused}
-use Rattle.refusals.proofs.Answering.{refused-not, refuse-accepted, told-refused, told-accepted}
+use Rattle.refusals.proofs.Answering.{refused-fails, refused-so, refuse-accepted, told-refused, told-accepted}
 use Rattle.refusals.proofs.Called.{refused-by, accepted-checks, accepted-wrote}
 use Rattle.lines.specs.Clue.{words, gap, minSpace}
 use Rattle.lines.specs.Calls.{clueChecks, startsWords}
@@ -46,7 +46,7 @@ pub first-most : (ws : List ℕ) → Sectioned ws → (l : ℕ) → l ≤ lines 
 unfolding firstAt
 first-most ws S zero h = omega arith
 first-most ws S (suc l) h =
-    let F = fine-lines (puzzle ws) (walked-sections ws S .fine) l (omega arith) in
+    let F = fine-lines (puzzle ws) (walked-sections 0 ws S .fine) l (omega arith) in
     omega (arith, first-most ws S l (omega arith), line-vars (puzzle ws) l (F .few) (size-within (lengthAt (puzzle ws) l) (F .sized)))
 
 -- ---- one line of words whose sections were read
@@ -56,13 +56,13 @@ module _ (ws : List ℕ) (S : Sectioned ws) (l : ℕ) (h : l < lines (puzzle ws)
   z = puzzle ws
 
   pub line-fine : FineLine (lengthAt z l) (clueAt z l)
-  line-fine = fine-lines z (walked-sections ws S .fine) l h
+  line-fine = fine-lines z (walked-sections 0 ws S .fine) l h
 
   pub line-here : Here ws (beginAt z l) (clueAt z l)
-  line-here = rw (← walked-sections ws S .words-are) at (clue-here z l h)
+  line-here = rw (← walked-sections 0 ws S .words-are) at (clue-here z l h)
 
   pub lines-most : lines z ≤ 128
-  lines-most = let F = walked-sections ws S .fine in omega (arith, size-within (width z) (F .columns .0), size-within (height z) (F .rows .0))
+  lines-most = let F = walked-sections 0 ws S .fine in omega (arith, size-within (width z) (F .columns .0), size-within (height z) (F .rows .0))
 
   module _ {at first : ℕ} (P : Standing z l at first) where
     -- what the sums and the stores of a turn need
@@ -91,7 +91,7 @@ module _ (ws : List ℕ) (S : Sectioned ws) (l : ℕ) (h : l < lines (puzzle ws)
         rw (m, P .at-is) (line-here .part-is)
 
     module _ {cells : ℕ} (ce : cells ≡ lengthAt z l) where
-      line-checks : clueChecks cells (words (clueAt z l)) ≡ refuse (ltb cells (minSpace gap (clueAt z l))) 6 0 (accepted (minSpace gap (clueAt z l)))
+      line-checks : clueChecks cells (words (clueAt z l)) ≡ refuse (ltb cells (minSpace gap (clueAt z l))) 6 0 passed
       line-checks = rw ce (proper-clue (lengthAt z l) (clueAt z l) (line-fine .sized) (line-fine .few) (line-fine .proper) (line-fine .colors-most))
 
       -- the call that writes the starts into the tail of the table, behind where it begins and its first variable
@@ -111,12 +111,12 @@ module _ (ws : List ℕ) (S : Sectioned ws) (l : ℕ) (h : l < lines (puzzle ws)
         pub lay-refused : {why : Refusal} → a ≡ Refused why → cells < minSpace gap (clueAt z l)
         lay-refused r = elim (decLt cells (minSpace gap (clueAt z l))) [
           | yes f ↦ f
-          | no f ↦ absurd (refused-not r (minSpace gap (clueAt z l)) (refused-by called r tail-room ∙ line-checks ∙ rw (le-ltb cells (minSpace gap (clueAt z l)) (omega arith))))
+          | no f ↦ absurd (refused-fails (refused-by called r tail-room) r (sym (line-checks ∙ rw (le-ltb cells (minSpace gap (clueAt z l)) (omega arith)))))
         ]
 
         module _ {used : ℕ} (r : a ≡ Accepted used) where
           pub lay-fits : minSpace gap (clueAt z l) ≤ cells
-          lay-fits = ltb-false _ _ (refuse-accepted (ltb cells (minSpace gap (clueAt z l))) _ _ _ (accepted-checks called r .1 ∙ line-checks) .0)
+          lay-fits = ltb-false _ _ (refuse-accepted (ltb cells (minSpace gap (clueAt z l))) _ _ _ (accepted-checks called r ∙ line-checks) .0)
 
           pub lay-wrote : Wrote (laidWords z l) table (lineSize * l) (putMid to (length stored - to) stored tail) (to + used)
           unfolding laidWords
@@ -160,11 +160,12 @@ abbrev pub Told : Puzzle → ℕ → ℕ → Answer → Type 0
 Told z l cells a = told a ≡ refuse (ltb cells (minSpace gap (clueAt z l))) 6 l (accepted (length (clueAt z l) * positionsAt z l))
 
 module _ (ws : List ℕ) (S : Sectioned ws) {table : List ℕ} {l at first : ℕ} (L : LayingLines (puzzle ws) table l at first) (h : l < lines (puzzle ws)) where
-  pub laying-short : {cells : ℕ} → cells ≡ lengthAt (puzzle ws) l → {a : Answer} {why : Refusal} → a ≡ Refused why → Told (puzzle ws) l cells a → (v : Verdict) → told a ≡ spaces (puzzle ws) v
-  laying-short {cells} ce r t v =
+  pub laying-short : {cells : ℕ} → cells ≡ lengthAt (puzzle ws) l → {a : Answer} {why : Refusal} → a ≡ Refused why → Told (puzzle ws) l cells a → {X : Type 0}
+      → (told a ≡ andThen (spaces (puzzle ws)) (accepted (cellsAt (puzzle ws)))) × (passed ≡ spaces (puzzle ws) → X)
+  laying-short {cells} ce r t =
       let s = told-refused (ltb cells (minSpace gap (clueAt (puzzle ws) l))) _ _ _ r t in
       let f : cells < minSpace gap (clueAt (puzzle ws) l) = ltb-true _ _ (s .0) in
-      s .1 ∙ spaces-short (puzzle ws) v l h (L .fit) (omega arith)
+      refused-so r _ _ (s .1 ∙ rw (← spaces-short (puzzle ws) l h (L .fit) (omega arith)))
 
   pub laying-vars : (cells : ℕ) {a : Answer} {v : ℕ} → a ≡ Accepted v → Told (puzzle ws) l cells a → v ≤ 4160
   laying-vars cells r t =
@@ -209,8 +210,8 @@ module _ (ws : List ℕ) {table : List ℕ} {l at first : ℕ} (L : LayingLines 
   h : lines (puzzle ws) ≡ l
   h = omega (arith, L .within)
 
-  pub laying-done : accepted at ≡ spaces (puzzle ws) (accepted (cellsAt (puzzle ws)))
-  laying-done = rw (spaces-fit (puzzle ws) (λ j g. L .fit j (omega arith)) (accepted (cellsAt (puzzle ws))), L .stands .at-is, ← h, begin-cells (puzzle ws))
+  pub laying-done : accepted at ≡ andThen (spaces (puzzle ws)) (accepted (cellsAt (puzzle ws)))
+  laying-done = rw (spaces-fit (puzzle ws) (λ j g. L .fit j (omega arith)), L .stands .at-is, ← h, begin-cells (puzzle ws))
 
   pub laying-laid : Laid (puzzle ws) table
   laying-laid j g = L .laid j (omega arith)

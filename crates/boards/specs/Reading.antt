@@ -2,7 +2,7 @@
 use mathlib.Core.Path.{_≡_}
 use mathlib.Core.List.{List}
 use Prim.Native.Nat.{ℕ}
-use Rattle.refusals.specs.Verdict.{accepted}
+use Rattle.refusals.specs.Verdict.{passed}
 use Rattle.refusals.specs.Told.{refusal}
 use Rattle.boards.specs.declared.board.Board.{Board}
 use Rattle.boards.specs.declared.board.Reading.{Reading}
@@ -22,7 +22,7 @@ pub record Stands (b : Board) (z : Puzzle) : Type 0 where
   pub colors-is : b .colors ≡ colors z
 
 pub record Held (ws : List ℕ) (table : List ℕ) (b : Board) : Type 0 where
-  pub checked : accepted (b .colors) ≡ puzzleChecks ws
+  pub checked : passed ≡ puzzleChecks ws
   pub stands : Stands b (puzzle ws)
   pub laid : Laid (puzzle ws) table
 

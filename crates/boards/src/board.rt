@@ -10,10 +10,10 @@ use puzzles::check::check_sections;
 use refusals::Answer;
 use refusals::Refusal;
 ghost use mathlib.Core.Path.{_≡_};
-ghost use Prim.Native.Nat.{ℕ, _≤_};
+ghost use Prim.Native.Nat.{_≤_};
 ghost use lib.ListN.{length};
 ghost use Rattle.refusals.specs.Told.{told};
-ghost use Rattle.refusals.specs.Verdict.{accepted};
+ghost use Rattle.refusals.specs.Verdict.{accepted, andThen, passed};
 ghost use Rattle.puzzles.specs.Puzzle as P;
 ghost use Rattle.puzzles.specs.Checks as C;
 ghost use Rattle.boards.specs.Layout.{tableSize};
@@ -39,8 +39,8 @@ pub enum Reading {
 fn check_meaning(words: &[u32], width: usize, height: usize, table: &mut [u32]) -> Answer
     requires { ⌜ C.Sectioned (now words) ⌝ }
     requires { ⌜ (width ≡ P.width (C.puzzle (now words))) × (height ≡ P.height (C.puzzle (now words))) × (tableSize ≤ length (now table)) ⌝ }
-    ensures { λ r. ⌜ told r ≡ C.meaningChecks (C.puzzle (now (words .entry))) ⌝ }
-    ensures { λ r. ⌜ ((n : ℕ) → told r ≡ accepted n → Laid (C.puzzle (now (words .entry))) (now (table .exit))) ⌝ }
+    ensures { λ r. ⌜ told r ≡ andThen (C.meaningChecks (C.puzzle (now (words .entry)))) (accepted (C.colors (C.puzzle (now (words .entry))))) ⌝ }
+    ensures { λ r. ⌜ (passed ≡ C.meaningChecks (C.puzzle (now (words .entry))) → Laid (C.puzzle (now (words .entry))) (now (table .exit))) ⌝ }
 {
     let laid = lay_lines(words, width, height, table);
     let Answer::Accepted(cells) = laid else {
@@ -48,10 +48,10 @@ fn check_meaning(words: &[u32], width: usize, height: usize, table: &mut [u32]) 
     };
     let colors = row_colors(words, width, height, table);
     let columns = check_columns(words, width, colors, table);
-    let solved = check_cells(&words[cells + 1..], colors);
     let Answer::Accepted(_) = columns else {
         return columns;
     };
+    let solved = check_cells(&words[cells + 1..], colors);
     let Answer::Accepted(_) = solved else {
         return solved;
     };
@@ -61,10 +61,10 @@ fn check_meaning(words: &[u32], width: usize, height: usize, table: &mut [u32]) 
 // Document 01's order: the walk and 11; 6; 9; 10.
 fn check_puzzle(words: &[u32], table: &mut [u32]) -> Answer
     requires { ⌜ tableSize ≤ length (now table) ⌝ }
-    ensures { λ r. ⌜ told r ≡ C.puzzleChecks (now (words .entry)) ⌝ }
-    ensures { λ r. ⌜ ((n : ℕ) → told r ≡ accepted n → Laid (C.puzzle (now (words .entry))) (now (table .exit))) ⌝ }
+    ensures { λ r. ⌜ told r ≡ andThen (C.puzzleChecks (now (words .entry))) (accepted (C.colors (C.puzzle (now (words .entry))))) ⌝ }
+    ensures { λ r. ⌜ (passed ≡ C.puzzleChecks (now (words .entry)) → Laid (C.puzzle (now (words .entry))) (now (table .exit))) ⌝ }
 {
-    let sections = check_sections(words);
+    let sections = check_sections(words, 0);
     let Answer::Accepted(rows) = sections else {
         return sections;
     };
@@ -75,7 +75,7 @@ fn check_puzzle(words: &[u32], table: &mut [u32]) -> Answer
 
 // The board of accepted words, from the table.
 fn board_of(words: &[u32], colors: u32, table: &[u32]) -> Board
-    requires { ⌜ accepted colors ≡ C.puzzleChecks (now words) ⌝ }
+    requires { ⌜ (passed ≡ C.puzzleChecks (now words)) × (colors ≡ C.colors (C.puzzle (now words))) ⌝ }
     requires { ⌜ Laid (C.puzzle (now words)) (now table) ⌝ }
     requires { ⌜ tableSize ≤ length (now table) ⌝ }
     ensures { λ r. ⌜ Stands r (C.puzzle (now (words .entry))) ⌝ }

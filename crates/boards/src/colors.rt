@@ -8,7 +8,7 @@ use refusals::Refusal;
 ghost use mathlib.Core.Path.{_≡_};
 ghost use Prim.Native.Nat.{_≤_};
 ghost use lib.ListN.{length};
-ghost use Rattle.refusals.specs.Told.{told};
+ghost use Rattle.refusals.specs.Told.{checked};
 ghost use Rattle.lines.specs.Clue.{blocks};
 ghost use Rattle.puzzles.specs.Puzzle as P;
 ghost use Rattle.puzzles.specs.Colors.{withColors, known, offSolved};
@@ -68,7 +68,7 @@ pub fn check_columns(words: &[u32], width: usize, colors: u32, table: &[u32]) ->
     requires { ⌜ C.Sectioned (now words) ⌝ }
     requires { ⌜ Laid (C.puzzle (now words)) (now table) ⌝ }
     requires { ⌜ (width ≡ P.width (C.puzzle (now words))) × (tableSize ≤ length (now table)) ⌝ }
-    ensures { λ r. ⌜ told r ≡ C.columnChecks colors (C.puzzle (now (words .entry)) .columns) ⌝ }
+    ensures { λ r. ⌜ checked r ≡ C.columnChecks colors (C.puzzle (now (words .entry)) .columns) ⌝ }
 {
     for l in 0..width {
         let parts = find_line(words, table, l);
@@ -93,7 +93,7 @@ fn off_solved(colors: u32, mask: u32) -> bool
 
 // The first cell that is solved with a colour that K lacks.
 pub fn check_cells(masks: &[u32], colors: u32) -> Answer
-    ensures { λ r. ⌜ told r ≡ C.solvedChecks colors (now (masks .entry)) ⌝ }
+    ensures { λ r. ⌜ checked r ≡ C.solvedChecks colors (now (masks .entry)) ⌝ }
 {
     for i in 0..masks.len() {
         if off_solved(colors, masks[i]) {

@@ -14,7 +14,7 @@ ghost use lib.Dec.{eqb, ltb};
 ghost use lib.ListN.{length};
 ghost use Rattle.lists.specs.Wrote.{Wrote};
 ghost use Rattle.refusals.specs.Told.{told};
-ghost use Rattle.refusals.specs.Verdict.{accepted, refuse};
+ghost use Rattle.refusals.specs.Verdict.{accepted, andThen, passed, refuse};
 ghost use Rattle.lines.specs.Clue.{gap, minSpace};
 ghost use Rattle.puzzles.specs.Puzzle as P;
 ghost use Rattle.puzzles.specs.Checks.{puzzle, Sectioned, spaces};
@@ -65,8 +65,8 @@ fn lay_line(
 pub fn lay_lines(words: &[u32], width: usize, height: usize, table: &mut [u32]) -> Answer
     requires { ⌜ Sectioned (now words) ⌝ }
     requires { ⌜ (width ≡ P.width (puzzle (now words))) × (height ≡ P.height (puzzle (now words))) × (tableSize ≤ length (now table)) ⌝ }
-    ensures { λ r. ⌜ told r ≡ spaces (puzzle (now (words .entry))) (accepted (P.cellsAt (puzzle (now (words .entry))))) ⌝ }
-    ensures { λ r. ⌜ ((n : ℕ) → told r ≡ accepted n → Laid (puzzle (now (words .entry))) (now (table .exit))) ⌝ }
+    ensures { λ r. ⌜ told r ≡ andThen (spaces (puzzle (now (words .entry)))) (accepted (P.cellsAt (puzzle (now (words .entry))))) ⌝ }
+    ensures { λ r. ⌜ (passed ≡ spaces (puzzle (now (words .entry))) → Laid (puzzle (now (words .entry))) (now (table .exit))) ⌝ }
 {
     let mut at = 1;
     let mut first = 1;

@@ -3,7 +3,7 @@ use crate::covering::find_covering;
 use crate::rule::Rule;
 use crate::support::rule_clauses;
 use boards::board::Board;
-use literals::number;
+use literals::count_word;
 ghost use mathlib.Core.Path.{_≡_};
 ghost use mathlib.Core.List.{_++_};
 ghost use Prim.Native.Nat.{_+_, _≤_, _<_};
@@ -140,7 +140,7 @@ pub fn write_cells(
     requires { ⌜ length (sectionWords (ofCells (puzzle (now words)) rule)) ≤ length (now out) ⌝ }
     ensures { λ r. ⌜ Wrote (sectionWords (ofCells (puzzle (now (words .entry))) rule)) (now (out .entry)) 0 (now (out .exit)) r ⌝ }
 {
-    out[0] = number(count);
+    out[0] = count_word(count);
     let mut found = [0usize; 64];
     let mut to = 1;
     for x in 0..board.width {

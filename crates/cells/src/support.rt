@@ -1,7 +1,7 @@
 // What a rule says of a cell variable and the positions that were found.
 use crate::rule::Rule;
+use literals::count_word;
 use literals::no;
-use literals::number;
 use literals::yes;
 use sections::put_two;
 ghost use mathlib.Core.List.{map};
@@ -35,7 +35,7 @@ fn cell_color_clauses(found: &[usize], v: usize, out: &mut [i32], at: usize) -> 
     requires { ⌜ at + length (clausesWords (ruled Color v (now found))) ≤ length (now out) ⌝ }
     ensures { λ r. ⌜ Wrote (clausesWords (ruled Color v (now (found .entry)))) (now (out .entry)) at (now (out .exit)) r ⌝ }
 {
-    out[at] = number(found.len() + 1);
+    out[at] = count_word(found.len() + 1);
     let to = put_found(found, out, at + 1);
     out[to] = no(v);
     to + 1

@@ -2,7 +2,7 @@
 use mathlib.Core.Path.{_≡_, refl}
 use native.Mathlib.Omega.{arith}
 use lib.ListN.{length}
-use Rattle.refusals.specs.Verdict.{accepted}
+use Rattle.refusals.specs.Verdict.{passed}
 use Rattle.puzzles.specs.Puzzle.{Puzzle}
 use Rattle.puzzles.specs.Good.{Good}
 use Rattle.numbering.specs.Variables.{variables}
@@ -18,7 +18,7 @@ unfolding families
 ten z = refl
 
 module _ (z : Puzzle) (G : Good z) where
-  pub buffer-accepted : accepted (length (buffer z)) ≡ wordChecks (variables z) 10 (buffer z)
+  pub buffer-accepted : passed ≡ wordChecks (variables z) 10 (buffer z)
   buffer-accepted = words-accepted (variables z) 10 (families z) (omega (arith, variables-most z G)) (omega arith) (buffer-most z G) (ten z) (families-fine z G)
 
   pub buffer-holds : clausesOf (variables z) 10 (buffer z) ≡ clauses z

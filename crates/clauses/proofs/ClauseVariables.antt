@@ -19,7 +19,7 @@ use Rattle.puzzles.specs.Puzzle.{Puzzle, width, height, lines, clueAt}
 use Rattle.puzzles.specs.Good.{Good}
 use Rattle.numbering.specs.Variables.{lineAt, many, placedAt, firstOf, variable, hues, hue, cellFirst, cellVariable, variables}
 use Rattle.numbering.specs.Names.{position, cell}
-use Rattle.numbering.proofs.OneToOne.{number-within}
+use Rattle.numbering.proofs.OneToOne.{numbered-within}
 use Rattle.numbering.proofs.Bounds.{variables-most}
 use Rattle.placement.specs.Placement.{blockPositions, blockOnce, nonOverlap, ruled, ofLines, ofColumns, ofRows}
 use Rattle.placement.specs.declared.rule.Rule.{Rule}
@@ -77,7 +77,7 @@ module _ (z : Puzzle) (G : Good z) where
   module _ (l : ℕ) (h : l < lines z) where
     position-of : (b i : ℕ) → b < many (lineAt z l) → i < lineAt z l .positions → Of (variable (lineAt z l) b i)
     unfolding lineAt
-    position-of b i k m = number-within z (position l b i) (h, omega (arith, packed-length gap (clueAt z l)), m)
+    position-of b i k m = numbered-within z (position l b i) (h, omega (arith, packed-length gap (clueAt z l)), m)
 
     ruled-fine : (rule : Rule) → FineAll (ruled rule (lineAt z l))
     unfolding ruled blockPositions blockOnce nonOverlap pairs product
@@ -104,7 +104,7 @@ module _ (z : Puzzle) (G : Good z) where
       every-map [] Fine 0 (λ u. negative u ∷ positive v ∷ []) us (λ i k. two-fine _ _ (negative-fine _ (h i k)) (positive-fine v o))
 
   cell-of : (x y r : ℕ) → x < width z → y < height z → r < hues z → Of (cellVariable z x y r)
-  cell-of x y r h k m = number-within z (cell x y r) (h, k, m)
+  cell-of x y r h k m = numbered-within z (cell x y r) (h, k, m)
 
   covering-of : (l c t : ℕ) → l < lines z → Every 0 Of (covering (lineAt z l) c t)
   covering-of l c t h = covering-every Of (lineAt z l) c t (position-of l h)

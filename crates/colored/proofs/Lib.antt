@@ -2,5 +2,4 @@ pub mod CoveredTests
 pub mod Sides
 pub mod SpaceTests
 pub mod ModelVariables
-pub mod UnitTests
 pub mod EachTests

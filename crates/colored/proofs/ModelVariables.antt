@@ -15,7 +15,7 @@ use Rattle.numbering.specs.Variables.{lineAt, hues, cellFirst, variables}
 use Rattle.numbering.specs.Names.{position}
 use Rattle.numbering.specs.Tables.{lineOf}
 use Rattle.numbering.proofs.Bounds.{first-some}
-use Rattle.numbering.proofs.OneToOne.{number-within}
+use Rattle.numbering.proofs.OneToOne.{numbered-within}
 use Rattle.cells.specs.Cells.{covering}
 use Rattle.cells.specs.Given.{Shows}
 use Rattle.cells.proofs.BoardCells.{cellAt, cell-is}
@@ -28,7 +28,7 @@ use Rattle.colored.specs.Models.{Of, AllOf, LineOf}
 module _ (model : List ℕ) (z : Puzzle) (all : length model ≡ variables z) where
   pub line-within : (l : ℕ) → l < lines z → LineOf model (lineAt z l)
   unfolding lineAt
-  line-within l h b i k m = rw all (number-within z (position l b i) (h, omega (arith, packed-length gap (clueAt z l)), m))
+  line-within l h b i k m = rw all (numbered-within z (position l b i) (h, omega (arith, packed-length gap (clueAt z l)), m))
 
   pub covering-within : (l c t : ℕ) → l < lines z → AllOf model (covering (lineAt z l) c t)
   covering-within l c t h = covering-every (Of model) (lineAt z l) c t (line-within l h)

@@ -1,6 +1,4 @@
-// Whether a model colours the cells: families 7 to 10 tested, with no clause written.
-pub mod once;
-pub mod precomputed;
+// Whether a model colours the cells: families 7 and 8 tested, with no clause written.
 pub mod section;
 mod side;
 mod spaces;

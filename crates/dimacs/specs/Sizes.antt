@@ -4,9 +4,9 @@ use mathlib.Core.List.{List}
 use lib.ListN.{length}
 use Rattle.sections.specs.Sections.{Clause}
 use Rattle.dimacs.specs.Text.{clausesText}
-use Rattle.dimacs.specs.declared.count.Size.{Size}
+use Rattle.dimacs.specs.declared.count.Extent.{Extent}
 
 -- how many they are, and how many bytes
-pub record Sized (cs : List Clause) (r : Size) : Type 0 where
+pub record ExtentIs (cs : List Clause) (r : Extent) : Type 0 where
   pub clauses-are : r .clauses ≡ length cs
   pub bytes-are : r .bytes ≡ length (clausesText cs)

@@ -11,7 +11,7 @@ ghost use Prim.Native.Nat.{_≤_};
 ghost use lib.ListN.{length};
 ghost use Rattle.lists.specs.Wrote.{Wrote};
 ghost use Rattle.refusals.specs.Outcome.{Answers};
-ghost use Rattle.refusals.specs.Verdict.{accepted};
+ghost use Rattle.refusals.specs.Verdict.{passed};
 ghost use Rattle.formulas.specs.Walk.{wordChecks, clausesOf};
 ghost use Rattle.formulas.specs.Clauses.{Formed, clausesIn};
 ghost use Rattle.dimacs.specs.Text.{text};
@@ -28,7 +28,7 @@ fn put_text(variables: usize, clauses: usize, words: &[i32], out: &mut [u8]) -> 
 // The text, where there is room.
 fn write_text(variables: usize, words: &[i32], out: &mut [u8]) -> Answer
     requires { ⌜ Formed (now words) ⌝ }
-    ensures { λ r. ⌜ Answers (accepted 0) (text variables (clausesIn (now (words .entry)))) (now (out .entry)) r (now (out .exit)) ⌝ }
+    ensures { λ r. ⌜ Answers passed (text variables (clausesIn (now (words .entry)))) (now (out .entry)) r (now (out .exit)) ⌝ }
 {
     let size = count_lines(words);
     let need = count_header(variables, size.clauses) + size.bytes;

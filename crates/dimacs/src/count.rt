@@ -8,10 +8,10 @@ ghost use Prim.Native.Nat.{_≤_};
 ghost use lib.ListN.{length};
 ghost use Rattle.formulas.specs.Clauses.{AreVariables, Formed, clausesIn};
 ghost use Rattle.dimacs.specs.Text.{literalText, clauseText, header};
-ghost use Rattle.dimacs.specs.Sizes.{Sized};
+ghost use Rattle.dimacs.specs.Sizes.{ExtentIs};
 
 // Of the lines behind the first.
-pub struct Size {
+pub struct Extent {
     pub clauses: usize,
     pub bytes: usize,
 }
@@ -39,9 +39,9 @@ fn count_clause(clause: &[i32]) -> usize
 }
 
 // Where a section has no clause left, the next word counts those of another.
-pub fn count_lines(words: &[i32]) -> Size
+pub fn count_lines(words: &[i32]) -> Extent
     requires { ⌜ Formed (now words) ⌝ }
-    ensures { λ r. ⌜ Sized (clausesIn (now (words .entry))) r ⌝ }
+    ensures { λ r. ⌜ ExtentIs (clausesIn (now (words .entry))) r ⌝ }
 {
     let mut clauses = 0;
     let mut bytes = 0;
@@ -59,7 +59,7 @@ pub fn count_lines(words: &[i32]) -> Size
         left -= 1;
         i += n;
     }
-    Size {
+    Extent {
         clauses: clauses,
         bytes: bytes,
     }

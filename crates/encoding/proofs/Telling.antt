@@ -7,26 +7,26 @@ use lib.Dec.{ltb}
 use lib.ListN.{length}
 use borrow.Author.Tests.{ltb-false}
 use Rattle.lists.specs.Wrote.{Wrote}
-use Rattle.refusals.specs.Verdict.{accepted, number, place}
+use Rattle.refusals.specs.Verdict.{passed, number, place}
 use Rattle.refusals.specs.Told as R
 use Rattle.refusals.specs.Outcome.{Answers}
 use Rattle.refusals.specs.declared.Refusal.{Refusal}
 use Rattle.refusals.specs.declared.Answer.{Answer}
 use Rattle.refusals.specs.declared.Answer.the-variants.{Accepted, Refused}
-use Rattle.refusals.proofs.Answering.{refused-told, handed-up, refuse-accepted}
+use Rattle.refusals.proofs.Answering.{refusal-is, handed-on, accepted-passed, refuse-accepted}
 use Rattle.puzzles.specs.Checks.{puzzle}
 use Rattle.encoding.specs.Encode.{wordsOf, inputChecks, textOf, wordsChecks, bytesChecks, programChecks, refusedText, printed, encoded}
-use Rattle.refusals.proofs.Called.{refused-kept, accepted-room, accepted-wrote}
+use Rattle.refusals.proofs.Called.{answers-checks, refused-kept, accepted-room, accepted-wrote}
 
 -- ---- the bytes
 
 module _ (bytes : List ℕ) where
-  pub input-refused : {a : Answer} {why : Refusal} → a ≡ Refused why → R.told a ≡ inputChecks bytes → R.told a ≡ bytesChecks bytes
-  input-refused r e = handed-up r e _
+  pub input-refused : {a : Answer} {why : Refusal} → a ≡ Refused why → R.checked a ≡ inputChecks bytes → R.checked a ≡ bytesChecks bytes
+  input-refused r e = handed-on e r _
 
-  module _ {a : Answer} {n : ℕ} (r : a ≡ Accepted n) (e : R.told a ≡ inputChecks bytes) where
-    input-accepted : accepted n ≡ inputChecks bytes
-    input-accepted = sym (ap R.told r) ∙ e
+  module _ {a : Answer} {n : ℕ} (r : a ≡ Accepted n) (e : R.checked a ≡ inputChecks bytes) where
+    input-accepted : passed ≡ inputChecks bytes
+    input-accepted = accepted-passed e r
 
     -- there is room for their words
     pub input-few : length bytes / 4 ≤ 16384
@@ -44,9 +44,9 @@ module _ (bytes : List ℕ) where
   ofText = textOf (puzzle (wordsOf bytes))
 
   module _ {out out′ : List ℕ} (room : 65536 ≡ length out) {a : Answer} (given : Answers (bytesChecks bytes) ofText out a out′) where
-    program-is : R.told a ≡ programChecks bytes
+    program-is : R.checked a ≡ programChecks bytes
     unfolding programChecks
-    program-is = given .answer-is ∙ rw (← room)
+    program-is = answers-checks given ∙ rw (← room)
 
     module _ {used : ℕ} (r : a ≡ Accepted used) where
       pub text-told : Wrote (encoded bytes) out 0 out′ used
@@ -60,6 +60,5 @@ module _ (bytes : List ℕ) where
       pub refusal-told : {out″ : List ℕ} {n : ℕ} → Wrote (refusedText k p) out′ 0 out″ n → Wrote (encoded bytes) out 0 out″ n
       unfolding printed
       refusal-told w =
-          let s = refused-told r in
-          let f : encoded bytes ≡ refusedText k p = rw (← program-is, k-is, p-is, s) in
+          let f : encoded bytes ≡ refusedText k p = rw (← program-is, k-is, p-is, r, refusal-is why) in
           rw (f, ← refused-kept given r) w

@@ -12,7 +12,7 @@ ghost use mathlib.Core.Path.{_≡_};
 ghost use Prim.Native.Nat.{_≤_};
 ghost use lib.ListN.{length};
 ghost use Rattle.lists.specs.Wrote.{Wrote};
-ghost use Rattle.refusals.specs.Told.{told};
+ghost use Rattle.refusals.specs.Told.{checked};
 ghost use Rattle.refusals.specs.Outcome.{Answers};
 ghost use Rattle.puzzles.specs.Checks.{puzzle};
 ghost use Rattle.encoding.specs.Encode.{wordsOf, inputChecks, textOf, wordsChecks, bytesChecks, encoded};
@@ -32,7 +32,7 @@ fn clause_buffer() -> [i32; 16384]
 
 // 23.
 fn check_input(input: &[u8]) -> Answer
-    ensures { λ r. ⌜ told r ≡ inputChecks (now (input .entry)) ⌝ }
+    ensures { λ r. ⌜ checked r ≡ inputChecks (now (input .entry)) ⌝ }
 {
     if BYTES < input.len() {
         return Answer::Refused(Refusal::ProgramInput(BYTES));

@@ -8,7 +8,7 @@ use lib.IntN.{ℤ, pos}
 use lib.ListN.{length, getD}
 use borrow.Author.Tests.{le-ltb, ltb-false}
 use Rattle.lists.specs.Each.{Every}
-use Rattle.refusals.specs.Verdict.{accepted}
+use Rattle.refusals.specs.Verdict.{passed}
 use Rattle.refusals.specs.Walk.{got, walked, readOr, times}
 use Rattle.refusals.proofs.Answering.{refuse-accepted}
 use Rattle.refusals.proofs.Readers.{walked-is}
@@ -29,14 +29,14 @@ record Held (v n : ℕ) (ws : List ℤ) : Type 0 where
   pub fine : Every [] (FineSection v) (held v n ws)
 
 module _ (v n : ℕ) (ws : List ℤ) where
-  module _ {k : ℕ} (e : accepted k ≡ wordChecks v n ws) where
+  module _ (e : passed ≡ wordChecks v n ws) where
     accepted-held : Held v n ws
     accepted-held =
         let a = refuse-accepted (ltb 1000000 v) _ _ _ e in
         let b = refuse-accepted (ltb 16 n) _ _ _ (a .1) in
         let c = refuse-accepted (ltb 1073741824 (length ws)) _ _ _ (b .1) in
         let w = walked-is [] 22 (times n (readSection v) 0 ws) (sections-reader v n .only 0 ws) (c .1) in
-        record { few = ltb-false _ _ (c .0); words-are = w .0; fine = w .2 .1 }
+        record { few = ltb-false _ _ (c .0); words-are = w .0; fine = w .1 .1 }
 
     variables-are : Every [] SectionFine (held v n ws)
     variables-are s h i g j l = literal-is v (getD (getD (getD (held v n ws) s []) i []) j (pos 0)) (accepted-held .fine s h i g j l) .0
@@ -58,7 +58,7 @@ module _ (v n : ℕ) (ss : List (List Clause)) (v-few : v ≤ 1000000) (n-few : 
       ∙ sections-reader v n .back 0 ss [] (n-is, fine)
       ∙ ap (λ k. got ss k []) (zero-add (length (sectionsWords ss)))
 
-  pub words-accepted : accepted (length (sectionsWords ss)) ≡ wordChecks v n (sectionsWords ss)
+  pub words-accepted : passed ≡ wordChecks v n (sectionsWords ss)
   unfolding walked
   words-accepted = rw (le-ltb _ _ v-few, le-ltb _ _ n-few, le-ltb _ _ few, reads)
 

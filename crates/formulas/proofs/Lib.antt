@@ -1,3 +1,4 @@
 pub mod Readers
 pub mod Ahead
 pub mod Accepting
+pub mod Stopping

@@ -5,7 +5,7 @@ use Prim.Native.Nat.{ℕ}
 use lib.IntN.{ℤ, natAbs}
 use lib.Dec.{ltb}
 use lib.ListN.{length}
-use Rattle.refusals.specs.Verdict.{Verdict, refuse}
+use Rattle.refusals.specs.Verdict.{Checks, refuse}
 use Rattle.refusals.specs.Walk.{Walk, walked, readOr, word, times, counted}
 use Rattle.literals.specs.Literals.{largest, isNegative, offLiteral}
 use Rattle.sections.specs.Sections.{Clause}
@@ -20,7 +20,7 @@ abbrev pub readSection : ℕ → ℕ → List ℤ → Walk ℤ (List Clause)
 readSection v = counted natAbs (word 22 isNegative 22) (readClause v)
 
 -- of v variables and n sections: 21 in its order, then 22
-abbrev pub wordChecks : ℕ → ℕ → List ℤ → Verdict
+abbrev pub wordChecks : ℕ → ℕ → List ℤ → Checks
 wordChecks v n ws =
     refuse (ltb largest v) 21 0 (refuse (ltb 16 n) 21 1 (refuse (ltb 1073741824 (length ws)) 21 2
     (walked 22 (times n (readSection v) 0 ws))))

@@ -4,7 +4,7 @@ use literals::Literal;
 use refusals::Answer;
 use refusals::Refusal;
 ghost use mathlib.Core.Path.{_≡_};
-ghost use Rattle.refusals.specs.Told.{told};
+ghost use Rattle.refusals.specs.Told.{checked};
 ghost use Rattle.formulas.specs.Walk.{wordChecks};
 
 // The most that are taken.
@@ -13,7 +13,7 @@ const SECTIONS: usize = 16;
 const WORDS: usize = 1_073_741_824;
 
 pub fn check_words(variables: usize, sections: usize, words: &[i32]) -> Answer
-    ensures { λ r. ⌜ told r ≡ wordChecks variables sections (now (words .entry)) ⌝ }
+    ensures { λ r. ⌜ checked r ≡ wordChecks variables sections (now (words .entry)) ⌝ }
 {
     if (Literal::LARGEST as usize) < variables {
         return Answer::Refused(Refusal::DimacsLimit(0));

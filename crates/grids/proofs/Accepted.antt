@@ -9,7 +9,7 @@ use lib.Bits.{and-self}
 use lib.ListN.{length, getD}
 use borrow.Author.Tests.{ne-eqb}
 use Rattle.lists.proofs.Eaches.{length-tab, getD-tab}
-use Rattle.refusals.specs.Verdict.{accepted}
+use Rattle.refusals.specs.Verdict.{passed}
 use Rattle.bits.specs.Bits.{bit, withBit, solved}
 use Rattle.bits.proofs.SetBits.{bit-some, with-same, with-zero}
 use Rattle.lines.specs.Line.{runs}
@@ -106,7 +106,7 @@ mask-known K =
     let some = bit-some (withBit K 0) 0 (with-same K 0 (omega arith)) in
     rw (← with-zero K, and-self (withBit K 0), ne-eqb (withBit K 0) 0 (λ z. omega arith)) (and-false (solved (withBit K 0)))
 
-module _ (w h : ℕ) (grid : List ℕ) {n : ℕ} (e : accepted n ≡ gridChecks w h grid) where
+module _ (w h : ℕ) (grid : List ℕ) (e : passed ≡ gridChecks w h grid) where
   S : Sized w h grid
   S = grid-sized w h grid e
 
@@ -153,10 +153,10 @@ module _ (w h : ℕ) (grid : List ℕ) {n : ℕ} (e : accepted n ≡ gridChecks 
   }
 
   -- what `read_grid` writes is accepted as a puzzle, and read as the grid's
-  pub grid-accepted : puzzleChecks (gridWords w h grid) ≡ accepted (colors (gridPuzzle w h grid))
+  pub grid-accepted : passed ≡ puzzleChecks (gridWords w h grid)
   unfolding gridWords
-  grid-accepted = good-accepted (gridPuzzle w h grid) grid-good
+  grid-accepted = good-accepted (gridPuzzle w h grid) grid-good 0
 
   pub grid-read : puzzle (gridWords w h grid) ≡ gridPuzzle w h grid
   unfolding gridWords
-  grid-read = good-read (gridPuzzle w h grid) grid-good
+  grid-read = good-read (gridPuzzle w h grid) grid-good 0

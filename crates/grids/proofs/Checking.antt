@@ -6,12 +6,12 @@ use Prim.Native.Nat.{ℕ, _*_}
 use lib.ListN.{length, getD}
 use lib.Dec.{eqb, ltb}
 use borrow.Author.Tests.{eq-eqb, ne-eqb, eqb-true, ltb-false, not-false}
-use Rattle.refusals.specs.Verdict.{accepted, refused}
-use Rattle.refusals.specs.Told.{told}
+use Rattle.refusals.specs.Verdict.{passed, refused}
+use Rattle.refusals.specs.Told.{checked}
 use Rattle.refusals.specs.declared.Refusal.{Refusal}
 use Rattle.refusals.specs.declared.Answer.{Answer}
 use Rattle.refusals.specs.declared.Answer.the-variants.{Refused}
-use Rattle.refusals.proofs.Answering.{handed-up, refuse-accepted, then-accepted, first-accepted}
+use Rattle.refusals.proofs.Answering.{handed-on, refuse-accepted, then-accepted, first-accepted}
 use Rattle.refusals.proofs.Offending.{none-off}
 use Rattle.lines.specs.Calls.{offSize, byteChecks}
 use Rattle.lines.proofs.Checks.{size-within}
@@ -35,12 +35,12 @@ module _ (w h : ℕ) (grid : List ℕ) where
       unfolding sizeChecks
       count-refused n = rw (a, b, ne-eqb _ _ n)
 
-      pub size-accepted : length grid ≡ w * h → accepted 0 ≡ sizeChecks w h grid
+      pub size-accepted : length grid ≡ w * h → passed ≡ sizeChecks w h grid
       unfolding sizeChecks
       size-accepted e = rw (a, b, eq-eqb _ _ e)
 
-module _ {w h : ℕ} {grid : List ℕ} {n : ℕ} where
-  pub size-ok : accepted n ≡ sizeChecks w h grid → Sized w h grid
+module _ {w h : ℕ} {grid : List ℕ} where
+  pub size-ok : passed ≡ sizeChecks w h grid → Sized w h grid
   unfolding sizeChecks
   size-ok e =
       let a = refuse-accepted (offSize w) _ _ _ e in
@@ -57,20 +57,20 @@ module _ {w h : ℕ} {grid : List ℕ} {n : ℕ} where
 -- ---- the bytes come after
 
 module _ (w h : ℕ) (grid : List ℕ) where
-  pub size-handed : {a : Answer} {why : Refusal} → a ≡ Refused why → told a ≡ sizeChecks w h grid → told a ≡ gridChecks w h grid
+  pub size-handed : {a : Answer} {why : Refusal} → a ≡ Refused why → checked a ≡ sizeChecks w h grid → checked a ≡ gridChecks w h grid
   unfolding gridChecks
-  size-handed r e = handed-up r e _
+  size-handed r e = handed-on e r _
 
-  pub size-passed : {n : ℕ} → accepted n ≡ sizeChecks w h grid → byteChecks grid ≡ gridChecks w h grid
+  pub size-passed : passed ≡ sizeChecks w h grid → byteChecks grid ≡ gridChecks w h grid
   unfolding gridChecks
   size-passed e = rw (← e)
 
-  module _ {n : ℕ} (e : accepted n ≡ gridChecks w h grid) where
+  module _ (e : passed ≡ gridChecks w h grid) where
     pub grid-sized : Sized w h grid
     unfolding gridChecks
-    grid-sized = size-ok (first-accepted (sizeChecks w h grid) _ e .1)
+    grid-sized = size-ok (first-accepted (sizeChecks w h grid) _ e)
 
-    pub grid-bytes : accepted n ≡ byteChecks grid
+    pub grid-bytes : passed ≡ byteChecks grid
     unfolding gridChecks
     grid-bytes = then-accepted (sizeChecks w h grid) _ e
 

@@ -13,7 +13,7 @@ use Rattle.lists.proofs.Writing.{wrote-after, wrote-ahead}
 use Rattle.lists.proofs.Emitting.{Emitting, emit-first, emit-done}
 use Rattle.lines.specs.Clue.{Block}
 use Rattle.lines.specs.Line.{runs}
-use Rattle.lines.specs.Strided.{strided}
+use Rattle.runs.specs.Strided.{strided}
 use Rattle.lines.specs.Calls.{lineWords}
 use Rattle.lines.proofs.Coloring.{line-words, line-words-length, runs-few}
 use Rattle.puzzles.specs.Puzzle.{clueWords, cluesWords, linesWords}

@@ -9,10 +9,10 @@ use lib.ListN.{length, take, drop, getD, replicate, getD-replicate}
 use Rattle.lists.specs.Each.{each, sum}
 use Rattle.lists.proofs.Parts.{part-within, part-tab, each-most}
 use Rattle.lists.proofs.Sums.{sum-same, sum-both, sum-constant, sum-times, sum-most, length-each}
-use Rattle.lines.specs.Begins.{begins}
+use Rattle.runs.specs.Begins.{begins}
 use Rattle.lines.specs.Calls.{lineWords}
 use Rattle.lines.specs.Line.{runs}
-use Rattle.lines.proofs.Growing.{before, words-none, words-grow, begins-most}
+use Rattle.runs.proofs.Growing.{before, words-none, words-grow, begins-most}
 use Rattle.puzzles.specs.Puzzle.{clueWords, linesWords}
 use Rattle.grids.specs.Grid.{row, column, columnClues}
 use Rattle.grids.specs.Sized.{Sized}

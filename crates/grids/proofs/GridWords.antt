@@ -10,7 +10,7 @@ use Rattle.lists.specs.Wrote.{Wrote}
 use Rattle.lists.proofs.Eaches.{length-tab, tab-same}
 use Rattle.lists.proofs.Writing.{wrote-then}
 use Rattle.lines.specs.Line.{runs}
-use Rattle.lines.proofs.LineCells.{strided-is}
+use Rattle.runs.proofs.LineCells.{strided-is}
 use Rattle.puzzles.specs.Puzzle.{linesWords, cellsWords, puzzleWords}
 use Rattle.grids.specs.Grid.{row, column, rowClues, columnClues, gridPuzzle, gridWords}
 use Rattle.grids.specs.Sized.{Sized, Lined, Laid, laidClues}

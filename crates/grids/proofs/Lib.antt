@@ -6,3 +6,4 @@ pub mod ClueSections
 pub mod ColumnWords
 pub mod GridColors
 pub mod GridWords
+pub mod Numbers

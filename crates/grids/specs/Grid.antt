@@ -5,7 +5,7 @@ use Prim.Native.Nat.{ℕ, _+_, _*_}
 use lib.Dec.{eqb}
 use lib.ListN.{length, getD}
 use Rattle.lists.specs.Each.{each, tab}
-use Rattle.refusals.specs.Verdict.{Verdict, accepted, refuse, andThen}
+use Rattle.refusals.specs.Verdict.{Checks, passed, refuse, andThen}
 use Rattle.bits.specs.Bits.{withBit}
 use Rattle.lines.specs.Clue.{Block}
 use Rattle.lines.specs.Line.{runs}
@@ -23,15 +23,15 @@ column w h grid x = tab h (λ y. getD grid (y * w + x) 0)
 -- ---- the calls
 
 -- 2, 7
-unfoldable pub sizeChecks : ℕ → ℕ → List ℕ → Verdict
+unfoldable pub sizeChecks : ℕ → ℕ → List ℕ → Checks
 sizeChecks w h grid =
     refuse (offSize w) 2 0
     (refuse (offSize h) 2 1
     (refuse (not (eqb (length grid) (w * h))) 7 (length grid)
-    (accepted 0)))
+    passed))
 
 -- 2, 7, 18
-unfoldable pub gridChecks : ℕ → ℕ → List ℕ → Verdict
+unfoldable pub gridChecks : ℕ → ℕ → List ℕ → Checks
 gridChecks w h grid = andThen (sizeChecks w h grid) (byteChecks grid)
 
 -- the grid's columns as rows

@@ -6,7 +6,7 @@ use lib.ListN.{length}
 use Rattle.lists.specs.Each.{tab}
 use Rattle.lines.specs.Clue.{Block}
 use Rattle.lines.specs.Line.{runs}
-use Rattle.lines.specs.Strided.{strided, Strided}
+use Rattle.runs.specs.Strided.{strided, Strided}
 
 pub record Sized (w h : ℕ) (grid : List ℕ) : Type 0 where
   pub width-some : 0 < w

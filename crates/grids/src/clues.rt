@@ -1,15 +1,15 @@
 // The clues of a grid's lines.
-use lines::line::count_words;
-use lines::line::put_runs;
-use lines::line::run_begins;
+use runs::line::count_words;
+use runs::line::put_runs;
+use runs::line::run_begins;
 ghost use mathlib.Core.Path.{_≡_};
 ghost use Prim.Native.Nat.{_+_, _≤_};
 ghost use lib.ListN.{length, getD};
 ghost use Rattle.lists.specs.Each.{sum};
 ghost use Rattle.lists.specs.Wrote.{Wrote};
-ghost use Rattle.lines.specs.Begins.{begins};
+ghost use Rattle.runs.specs.Begins.{begins};
 ghost use Rattle.lines.specs.Line.{runs};
-ghost use Rattle.lines.specs.Strided.{strided, Strided};
+ghost use Rattle.runs.specs.Strided.{strided, Strided};
 ghost use Rattle.puzzles.specs.Puzzle.{clueWords, linesWords};
 ghost use Rattle.grids.specs.Grid.{rowClues, columnClues};
 ghost use Rattle.grids.specs.Sized.{Sized, Lined, Laid, laidClues};

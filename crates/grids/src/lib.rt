@@ -1,7 +1,5 @@
-// Grids of colour bytes: reading one into puzzle words, transposing.
+// Grids of colour bytes: reading one into puzzle words.
 mod clues;
-mod columns;
 mod masks;
 pub mod read;
-mod size;
-pub mod transpose;
+pub mod size;

@@ -5,14 +5,14 @@ use crate::clues::put_clues;
 use crate::masks::cells_mask;
 use crate::masks::put_masks;
 use crate::size::check_size;
-use lines::line::check_bytes;
 use refusals::Answer;
 use refusals::Refusal;
+use runs::line::check_bytes;
 ghost use mathlib.Core.Path.{_≡_};
 ghost use Prim.Native.Nat.{_≤_};
 ghost use lib.ListN.{length};
 ghost use Rattle.lists.specs.Wrote.{Wrote};
-ghost use Rattle.refusals.specs.Told.{told};
+ghost use Rattle.refusals.specs.Told.{checked};
 ghost use Rattle.refusals.specs.Outcome.{Answers};
 ghost use Rattle.grids.specs.Grid.{gridChecks, gridWords};
 ghost use Rattle.grids.specs.Mask.{Colored};
@@ -20,7 +20,7 @@ ghost use Rattle.grids.specs.Sized.{Sized};
 
 // The size, then the bytes.
 fn check_grid(width: usize, height: usize, grid: &[u8]) -> Answer
-    ensures { λ r. ⌜ told r ≡ gridChecks width height (now (grid .entry)) ⌝ }
+    ensures { λ r. ⌜ checked r ≡ gridChecks width height (now (grid .entry)) ⌝ }
 {
     let checked = check_size(width, height, grid);
     let Answer::Accepted(_) = checked else {

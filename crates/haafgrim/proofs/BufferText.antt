@@ -7,7 +7,7 @@ use lib.ListN.{length, take}
 use lib.Seq.{take-at}
 use borrow.Author.Tests.{le-ltb}
 use Rattle.lists.specs.Wrote.{over}
-use Rattle.refusals.specs.Verdict.{accepted}
+use Rattle.refusals.specs.Verdict.{passed}
 use Rattle.refusals.specs.Outcome.{Outcome}
 use Rattle.puzzles.specs.Checks.{puzzle, puzzleChecks}
 use Rattle.puzzles.proofs.Accepting.{accepted-is}
@@ -18,7 +18,7 @@ use Rattle.dimacs.specs.Text.{text}
 use Rattle.haafgrim.specs.Entries.{Clauses, Dimacs}
 use Rattle.haafgrim.specs.BufferText.{BufferTexts}
 
-module _ (ws : List ℕ) (k : ℕ) (e : accepted k ≡ puzzleChecks ws) where
+module _ (ws : List ℕ) (e : passed ≡ puzzleChecks ws) where
   front : (buf buf′ : List ℤ) (n p : ℕ) → length (buffer (puzzle ws)) ≤ length buf → Clauses ws buf n p buf′ → (n ≡ 0) × (take p buf′ ≡ buffer (puzzle ws))
   unfolding over
   front buf buf′ n p room r =
@@ -26,11 +26,10 @@ module _ (ws : List ℕ) (k : ℕ) (e : accepted k ≡ puzzleChecks ws) where
       let buf-is : buf′ ≡ over (buffer (puzzle ws)) buf = rw (← e, le-ltb _ _ room) at (r .out-is) in
       (rw (← e, le-ltb _ _ room) at (r .number-is), rw (p-is, buf-is) (take-at (buffer (puzzle ws)) _ (length (buffer (puzzle ws))) refl))
 
-  written : (out out′ : List ℕ) (n p : ℕ) → Dimacs (variables (puzzle ws)) 10 (buffer (puzzle ws)) out n p out′ → Outcome (accepted 0) (text (variables (puzzle ws)) (clauses (puzzle ws))) out n p out′
+  written : (out out′ : List ℕ) (n p : ℕ) → Dimacs (variables (puzzle ws)) 10 (buffer (puzzle ws)) out n p out′ → Outcome passed (text (variables (puzzle ws)) (clauses (puzzle ws))) out n p out′
   written out out′ n p r =
-      let G = accepted-is ws e .good in
-      let s : Outcome (accepted (length (buffer (puzzle ws)))) (text (variables (puzzle ws)) (clauses (puzzle ws))) out n p out′ = rw (← buffer-accepted (puzzle ws) G, buffer-holds (puzzle ws) G) at r in
-      record { number-is = s .number-is; place-is = s .place-is; out-is = s .out-is }
+      let G = accepted-is 0 ws e .good in
+      rw (← buffer-accepted (puzzle ws) G, buffer-holds (puzzle ws) G) at r
 
 pub buffer-text : BufferTexts
-buffer-text ws k e = record { buffer-is = front ws k e; text-is = written ws k e }
+buffer-text ws e = record { buffer-is = front ws e; text-is = written ws e }

@@ -1,12 +1,12 @@
 -- Each entry's promise leaves one answer.
 use mathlib.Core.Path.{sym, _∙_}
 use mathlib.Core.List.{List}
-use Rattle.refusals.specs.Verdict.{Verdict}
+use Rattle.refusals.specs.Verdict.{Checks}
 use Rattle.refusals.specs.Outcome.{Outcome}
 use Rattle.refusals.proofs.Answering.{outcome-determined}
 use Rattle.haafgrim.specs.Entries.{Determined, EachDetermined}
 
-outcome : {A : Type 0} (checks : Verdict) (ws out : List A) → Determined (Outcome checks ws out)
+outcome : {A : Type 0} (checks : Checks) (ws out : List A) → Determined (Outcome checks ws out)
 outcome checks ws out n p m q out′ out″ a b = outcome-determined ws out a b
 
 pub each-determined : EachDetermined

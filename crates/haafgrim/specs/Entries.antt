@@ -3,7 +3,7 @@ use mathlib.Core.Path.{_≡_}
 use mathlib.Core.List.{List}
 use Prim.Native.Nat.{ℕ}
 use lib.IntN.{ℤ}
-use Rattle.refusals.specs.Verdict.{accepted, andThen}
+use Rattle.refusals.specs.Verdict.{andThen, passed}
 use Rattle.refusals.specs.Outcome.{Outcome}
 use Rattle.bits.specs.Bits.{powers, joined}
 use Rattle.lines.specs.Calls.{lineChecks, lineWords, clueChecks, startsWords, rangesWords}
@@ -13,9 +13,9 @@ use Rattle.sections.specs.Sections.{clauseWords, sectionWords}
 use Rattle.truth.specs.Truth.{value}
 use Rattle.grids.specs.Grid.{sizeChecks, gridChecks, transposed, gridWords}
 use Rattle.pictures.specs.Pictures.{shown, blocking}
-use Rattle.models.specs.Models.{modelChecks}
+use Rattle.checker.specs.Models.{modelChecks}
 use Rattle.probes.specs.Probes.{probeChecks, probes}
-use Rattle.probes.specs.Implications.{implications}
+use Rattle.implied.specs.Implications.{implications}
 use Rattle.formulas.specs.Walk.{wordChecks, clausesOf}
 use Rattle.dimacs.specs.Text.{text}
 
@@ -24,7 +24,7 @@ abbrev pub Promise : Type 0 → Type 1
 Promise A = ℕ → ℕ → List A → Type 0
 
 abbrev pub TwoPowers : ℕ → List ℕ → Promise ℕ
-TwoPowers mask out = Outcome (accepted 0) (powers mask) out
+TwoPowers mask out = Outcome passed (powers mask) out
 
 -- the mask alone
 abbrev pub FromTwoPowers : List ℕ → ℕ → Type 0

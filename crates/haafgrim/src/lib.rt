@@ -21,7 +21,7 @@ pub extern "C" fn haafgrim_from_two_powers(words: &[u32]) -> u32
 pub extern "C" fn haafgrim_read_line(line: &[u8], out: &mut [u32], place: &mut usize) -> u32
     ensures { λ r. ⌜ ReadLine (now (line .entry)) (now (out .entry)) r (now (place .exit)) (now (out .exit)) ⌝ }
 {
-    let answer = lines::line::read_line(line, out);
+    let answer = runs::line::read_line(line, out);
     *place = answer.place();
     answer.number()
 }
@@ -49,7 +49,7 @@ pub extern "C" fn haafgrim_color_ranges(
 ) -> u32
     ensures { λ r. ⌜ ColorRanges length (now (clue .entry)) (now (out .entry)) r (now (place .exit)) (now (out .exit)) ⌝ }
 {
-    let answer = lines::range::color_ranges(length, clue, out);
+    let answer = ranges::range::color_ranges(length, clue, out);
     *place = answer.place();
     answer.number()
 }
@@ -79,7 +79,7 @@ pub extern "C" fn haafgrim_transpose(
 ) -> u32
     ensures { λ r. ⌜ Transpose width height (now (grid .entry)) (now (out .entry)) r (now (place .exit)) (now (out .exit)) ⌝ }
 {
-    let answer = grids::transpose::transpose(width, height, grid, out);
+    let answer = transposing::transpose::transpose(width, height, grid, out);
     *place = answer.place();
     answer.number()
 }
@@ -139,7 +139,7 @@ pub extern "C" fn haafgrim_probes(
 ) -> u32
     ensures { λ r. ⌜ Probes (now (puzzle .entry)) (now (probe .entry)) (now (out .entry)) r (now (place .exit)) (now (out .exit)) ⌝ }
 {
-    let answer = probes::call::probes(puzzle, probe, out);
+    let answer = implications::call::probes(puzzle, probe, out);
     *place = answer.place();
     answer.number()
 }

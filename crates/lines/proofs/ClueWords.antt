@@ -10,7 +10,7 @@ use borrow.Author.Tests.{eq-eqb, ne-eqb}
 use Rattle.lists.specs.Wrote.{Wrote}
 use Rattle.lists.proofs.Dropping.{drop-two}
 use Rattle.lists.proofs.Writing.{Filling, fill-first, fill-as, fill-space, fill-store, fill-done, wrote-then, wrote-sets}
-use Rattle.refusals.specs.Verdict.{accepted, refused}
+use Rattle.refusals.specs.Verdict.{passed, refused}
 use Rattle.lines.specs.Clue.{Block, words, blocks, gap, packedFrom, packed, starts, lastEnd, minSpace, positions}
 use Rattle.lines.specs.Arrangement.{blockAt, at}
 use Rattle.lines.specs.Calls.{offColor, blockChecks, startsWords}
@@ -49,9 +49,9 @@ module _ (l : List ℕ) (i : ℕ) where
     unfolding blockChecks
     check-next n e = rw (drop-two 0 l i h, ne-eqb _ _ n, e)
 
-  pub check-done : length l ≤ i + 1 → blockChecks i (drop i l) ≡ accepted 0
+  pub check-done : length l ≤ i + 1 → blockChecks i (drop i l) ≡ passed
   unfolding blockChecks
-  check-done = short (blockChecks i) (accepted 0) refl (λ x. refl) l i
+  check-done = short (blockChecks i) passed refl (λ x. refl) l i
 
 -- ---- the packed runs
 

@@ -3,12 +3,10 @@ pub mod Checks
 pub mod ClueWords
 pub mod Coloring
 pub mod Covering
-pub mod Growing
 pub mod Laying
-pub mod LineCells
 pub mod Moving
 pub mod Packing
-pub mod Ranges
 pub mod Reading
 pub mod Rendering
 pub mod SameCells
+pub mod Numbers

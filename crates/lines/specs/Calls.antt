@@ -5,7 +5,7 @@ use Prim.Native.Nat.{ℕ, _+_, _-_, _/_, _%_}
 use lib.ListN.{length}
 use lib.Dec.{eqb, ltb}
 use Rattle.lists.specs.Each.{each}
-use Rattle.refusals.specs.Verdict.{Verdict, accepted, refuse, andThen, firstOff}
+use Rattle.refusals.specs.Verdict.{Checks, passed, refuse, andThen, firstOff}
 use Rattle.lines.specs.Clue.{words, blocks, gap, packed, starts, minSpace, positions, ofColor, range}
 use Rattle.lines.specs.Line.{runs}
 
@@ -18,20 +18,20 @@ abbrev pub offColor : ℕ → Bool
 offColor c = eqb c 0 || ltb 31 c
 
 -- 4 and 5 by word, from word i on
-unfoldable pub blockChecks : ℕ → List ℕ → Verdict
-blockChecks i [] = accepted 0
-blockChecks i (size ∷ []) = accepted 0
+unfoldable pub blockChecks : ℕ → List ℕ → Checks
+blockChecks i [] = passed
+blockChecks i (size ∷ []) = passed
 blockChecks i (size ∷ color ∷ ws) = refuse (eqb size 0) 4 i (refuse (offColor color) 5 (i + 1) (blockChecks (i + 2) ws))
 
--- 2; 1 for an odd number of words; 3; 4 and 5 by word; 6; and else the least space
-unfoldable pub clueChecks : ℕ → List ℕ → Verdict
+-- 2; 1 for an odd number of words; 3; 4 and 5 by word; 6
+unfoldable pub clueChecks : ℕ → List ℕ → Checks
 clueChecks n clue =
     refuse (offSize n) 2 0
     (refuse (eqb (length clue % 2) 1) 1 (length clue)
     (refuse (ltb 64 (length clue / 2)) 3 0
     (andThen (blockChecks 0 clue)
     (refuse (ltb n (minSpace gap (blocks clue))) 6 0
-    (accepted (minSpace gap (blocks clue)))))))
+    passed))))
 
 -- p, least space, then the starts
 unfoldable pub startsWords : ℕ → List ℕ → List ℕ
@@ -42,11 +42,11 @@ unfoldable pub rangesWords : ℕ → List ℕ → List ℕ
 rangesWords n clue = each 31 (λ k. range (positions gap n (blocks clue) - 1) (ofColor (k + 1) (packed gap (blocks clue))))
 
 -- 18 at the first byte over 31
-abbrev pub byteChecks : List ℕ → Verdict
+abbrev pub byteChecks : List ℕ → Checks
 byteChecks line = firstOff (ltb 31) 18 0 line
 
 -- 2, 18
-unfoldable pub lineChecks : List ℕ → Verdict
+unfoldable pub lineChecks : List ℕ → Checks
 lineChecks line = refuse (offSize (length line)) 2 0 (byteChecks line)
 
 -- size and colour pairs

@@ -8,14 +8,15 @@ ghost use mathlib.Core.Path.{_≡_};
 ghost use Prim.Native.Nat.{_+_, _-_, _/_, _≤_};
 ghost use lib.ListN.{length};
 ghost use Rattle.lists.specs.Wrote.{Wrote};
-ghost use Rattle.refusals.specs.Told.{told};
+ghost use Rattle.refusals.specs.Told.{checked, told};
+ghost use Rattle.refusals.specs.Verdict.{accepted, andThen};
 ghost use Rattle.refusals.specs.Outcome.{Answers};
 ghost use Rattle.lines.specs.Clue as Clue;
 ghost use Rattle.lines.specs.Calls.{blockChecks, clueChecks, startsWords};
 
 // The first word that is no size or no colour.
 fn check_blocks(clue: &[u32]) -> Answer
-    ensures { λ r. ⌜ told r ≡ blockChecks 0 (now (clue .entry)) ⌝ }
+    ensures { λ r. ⌜ checked r ≡ blockChecks 0 (now (clue .entry)) ⌝ }
 {
     let mut i = 0;
     while i + 1 < clue.len() {
@@ -49,7 +50,7 @@ pub fn min_space(clue: &[u32]) -> u64
 
 // Where the clue is one of a line of that length: its least space.
 pub fn check_clue(length: usize, clue: &[u32]) -> Answer
-    ensures { λ r. ⌜ told r ≡ clueChecks length (now (clue .entry)) ⌝ }
+    ensures { λ r. ⌜ told r ≡ andThen (clueChecks length (now (clue .entry))) (accepted (Clue.minSpace Clue.gap (Clue.blocks (now (clue .entry))))) ⌝ }
 {
     if off_size(length) {
         return Answer::Refused(Refusal::Size(0));

@@ -2,6 +2,4 @@
 pub mod clue;
 pub mod gap;
 pub mod limits;
-pub mod line;
 pub mod meet;
-pub mod range;

@@ -92,8 +92,8 @@ pub fn no(v: usize) -> i32
     Literal::negative(v as u32).as_word()
 }
 
-// A count.
-pub fn number(n: usize) -> i32
+// The word of a count.
+pub fn count_word(n: usize) -> i32
     requires { ⌜ n < 2147483648 ⌝ }
     ensures { λ r. ⌜ r ≡ pos n ⌝ }
 {

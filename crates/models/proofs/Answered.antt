@@ -6,9 +6,10 @@ use native.Mathlib.Omega.{arith}
 use lib.ListN.{length, take}
 use Rattle.lists.specs.Wrote.{Wrote}
 use Rattle.lists.proofs.Eaches.{length-tab}
-use Rattle.refusals.specs.Told.{told}
+use Rattle.refusals.specs.Told.{checked}
 use Rattle.refusals.specs.declared.Answer.{Answer}
 use Rattle.refusals.specs.declared.Answer.the-variants.{Accepted}
+use Rattle.refusals.proofs.Answering.{accepted-passed}
 use Rattle.literals.specs.Literals.{largest}
 use Rattle.sections.specs.Sections.{clauseWords}
 use Rattle.truth.specs.Truth.{Assignment}
@@ -23,11 +24,12 @@ use Rattle.cells.specs.Given.{Given}
 use Rattle.cells.proofs.BoardCells.{given-shows}
 use Rattle.pictures.specs.Pictures.{shown, blocking}
 use Rattle.pictures.proofs.ColorsOfK.{hue-most}
-use Rattle.models.specs.Models.{trues, modelChecks}
+use Rattle.checker.specs.Models.{trues, modelChecks}
 use Rattle.models.specs.Shown.{cellColors, negated, AreBytes}
-use Rattle.models.proofs.Counting.{trues-negated, trues-most}
-use Rattle.models.proofs.Ordering.{area-is, few, cells-within}
-use Rattle.models.proofs.Acceptance.{accepted-model}
+use Rattle.checker.proofs.Counting.{trues-most}
+use Rattle.models.proofs.Negating.{trues-negated}
+use Rattle.checker.proofs.Ordering.{area-is, few, cells-within}
+use Rattle.checker.proofs.Acceptance.{accepted-model}
 
 -- `&colors[..k]`, where the palette was written
 pub given : {ws table : List ℕ} {board : Board} → Held ws table board → tableSize ≤ length table → {out out′ : List ℕ} {k : ℕ} → Wrote (N.palette (board .colors)) out 0 out′ k
@@ -73,5 +75,5 @@ module _ {ws table : List ℕ} {board : Board} {colors : List ℕ} (G : Given ws
         blocking-many = omega (arith, count-is, ap length negated-are)
 
   -- an accepted model has a byte for each variable
-  pub accepted-size : (model : List ℕ) (a : Answer) {n : ℕ} → a ≡ Accepted n → told a ≡ modelChecks (puzzle ws) model → length model ≡ N.variables (puzzle ws)
-  accepted-size model a {n} d e = accepted-model (puzzle ws) model (rw d at e) .0 .size
+  pub accepted-size : (model : List ℕ) (a : Answer) {n : ℕ} → a ≡ Accepted n → checked a ≡ modelChecks (puzzle ws) model → length model ≡ N.variables (puzzle ws)
+  accepted-size model a {n} d e = accepted-model (puzzle ws) model (accepted-passed e d) .0 .size

@@ -1,5 +1,5 @@
 -- The blocking clause as a loop writes it: each variable that is on negated.
-use mathlib.Core.Path.{_≡_}
+use mathlib.Core.Path.{_≡_, sym, _∙_}
 use mathlib.Core.Bool.{true, false}
 use mathlib.Core.List.{List, [], _∷_}
 use Prim.Native.Nat.{ℕ, _+_, _≤_, _<_}
@@ -9,10 +9,12 @@ use lib.ListN.{length, set}
 use Rattle.lists.specs.Each.{when}
 use Rattle.lists.specs.Wrote.{Wrote}
 use Rattle.lists.proofs.Emitting.{Emitting, emit-first, emit-room, emit-next, emit-done}
+use Rattle.lists.proofs.Sums.{sum-same, length-each, length-when}
 use Rattle.lists.proofs.Writing.{wrote-none, wrote-store, wrote-ahead}
 use Rattle.literals.specs.Literals.{negative}
 use Rattle.sections.specs.Sections.{clauseWords}
 use Rattle.truth.specs.Truth.{Assignment}
+use Rattle.checker.specs.Models.{trues}
 use Rattle.models.specs.Shown.{negated}
 
 abbrev pub Negating : Assignment → ℕ → ℕ → List ℤ → ℕ → List ℤ → ℕ → ℕ → Type 0
@@ -44,3 +46,8 @@ module _ (β : Assignment) (v n : ℕ) where
       → Wrote (clauseWords (negated β v n)) out 0 (set out′ 0 z) to
   unfolding clauseWords
   blocking-wrote out h e w = rw e (wrote-ahead out 0 _ h w)
+
+-- as many are negated as are true
+pub trues-negated : (β : Assignment) (v n : ℕ) → trues β v n ≡ length (negated β v n)
+unfolding trues negated
+trues-negated β v n = sym (length-each n _ ∙ sum-same n _ _ (λ k l. length-when (β (v + k)) (negative (v + k))))

@@ -1,6 +1,6 @@
 // The clause that blocks a picture: each true cell variable negated, ascending.
+use literals::count_word;
 use literals::no;
-use literals::number;
 use truth::on;
 ghost use mathlib.Core.Path.{_≡_};
 ghost use Prim.Native.Nat.{_+_, _≤_, _<_};
@@ -35,6 +35,6 @@ pub fn write_blocking(model: &[u8], v: usize, n: usize, count: usize, out: &mut 
     ensures { λ r. ⌜ Wrote (clauseWords (negated (value (now (model .entry))) v n)) (now (out .entry)) 0 (now (out .exit)) r ⌝ }
 {
     let to = put_negated(model, v, n, out, 1);
-    out[0] = number(count);
+    out[0] = count_word(count);
     to
 }

@@ -1,12 +1,12 @@
 // The calls `check_model` and `blocking`.
 use crate::block::write_blocking;
-use crate::check::check;
-use crate::count::count_true;
 use crate::picture::write_colors;
 use boards::board::Board;
 use boards::board::Reading;
 use boards::board::read_puzzle;
 use boards::layout::TABLE_SIZE;
+use checker::check::check;
+use checker::count::count_true;
 use numbering::palette;
 use refusals::Answer;
 use refusals::Refusal;
@@ -20,7 +20,7 @@ ghost use Rattle.puzzles.specs.Checks.{puzzle, puzzleChecks};
 ghost use Rattle.boards.specs.Layout.{tableSize};
 ghost use Rattle.boards.specs.Reading.{Held};
 ghost use Rattle.pictures.specs.Pictures as S;
-ghost use Rattle.models.specs.Models.{modelChecks};
+ghost use Rattle.checker.specs.Models.{modelChecks};
 
 // Once the puzzle is read: the model's refusals, 12, or the picture.
 fn show(words: &[u32], table: &[u32], board: Board, model: &[u8], out: &mut [u8]) -> Answer

@@ -1,7 +1,4 @@
-// Models: the checker, the picture that a model shows, and the clause that blocks it.
+// Models: the picture that an accepted one shows, and the clause that blocks it.
 mod block;
 pub mod call;
-mod check;
-mod count;
-mod families;
 mod picture;

@@ -10,7 +10,7 @@ use Rattle.puzzles.specs.Puzzle.{Puzzle, width, height, lines, clueAt}
 use Rattle.puzzles.specs.Firsts.{firstAt, positionsAt}
 use Rattle.numbering.specs.Variables.{lineAt, hues, cellFirst, variables}
 use Rattle.numbering.proofs.Bounds.{first-some}
-use Rattle.numbering.specs.Names.{Name, position, cell, IsName, number}
+use Rattle.numbering.specs.Names.{Name, position, cell, IsName, numbered}
 
 -- ---- n parts of length m: each number below n * m is element j of part i, for one i and one j
 
@@ -68,47 +68,47 @@ module _ (z : Puzzle) where
       apart l l′ W W′ h = omega (arith, W .high, W′ .low, first-up (suc l) l′ h)
 
   module _ (l b i : ℕ) (h : IsName z (position l b i)) where
-    position-within : Within l (number z (position l b i))
+    position-within : Within l (numbered z (position l b i))
     unfolding firstAt lineAt
     position-within = record {
       low = omega arith;
       high = omega (arith, place-within (length (clueAt z l)) (positionsAt z l) b i (h .1) (h .2));
     }
 
-    position-below : number z (position l b i) < firstAt z (lines z)
+    position-below : numbered z (position l b i) < firstAt z (lines z)
     position-below = omega (arith, position-within .high, first-up (suc l) (lines z) (h .0))
 
   -- ---- the theorem
 
   -- each name has a number from 1 to V
-  pub number-within : (n : Name) → IsName z n → (0 < number z n) × (number z n ≤ variables z)
+  pub numbered-within : (n : Name) → IsName z n → (0 < numbered z n) × (numbered z n ≤ variables z)
   unfolding cellFirst variables
-  number-within (position l b i) h = (omega (arith, first-some z l, position-within l b i h .low), omega (arith, position-below l b i h))
-  number-within (cell x y r) h =
+  numbered-within (position l b i) h = (omega (arith, first-some z l, position-within l b i h .low), omega (arith, position-below l b i h))
+  numbered-within (cell x y r) h =
       let c = y * width z + x in
       let c-in : c < width z * height z = omega (arith, place-within (height z) (width z) y x (h .1) (h .0), mul-comm (height z) (width z)) in
       (omega (arith, first-some z (lines z)), omega (arith, first-some z (lines z), place-within (width z * height z) (hues z) c r c-in (h .2)))
 
   -- no two have the same
-  pub number-once : (n m : Name) → IsName z n → IsName z m → number z n ≡ number z m → n ≡ m
+  pub numbered-once : (n m : Name) → IsName z n → IsName z m → numbered z n ≡ numbered z m → n ≡ m
   unfolding cellFirst lineAt
-  number-once (position l b i) (position l′ b′ i′) h h′ e =
+  numbered-once (position l b i) (position l′ b′ i′) h h′ e =
       let s : l ≡ l′ = line-once l l′ _ (position-within l b i h) (rw e (position-within l′ b′ i′ h′)) in
       let k : i < positionsAt z l′ = rw s at (h .2) in
       let q : firstAt z l′ + b * positionsAt z l′ + i ≡ firstAt z l′ + b′ * positionsAt z l′ + i′ = rw s at e in
       let p = part-once (positionsAt z l′) b i b′ i′ k (h′ .2) (omega arith) in
       rw (s, p .0, p .1)
-  number-once (position l b i) (cell x y r) h h′ e = absurd (omega (arith, position-below l b i h))
-  number-once (cell x y r) (position l b i) h h′ e = absurd (omega (arith, position-below l b i h′))
-  number-once (cell x y r) (cell x′ y′ r′) h h′ e =
+  numbered-once (position l b i) (cell x y r) h h′ e = absurd (omega (arith, position-below l b i h))
+  numbered-once (cell x y r) (position l b i) h h′ e = absurd (omega (arith, position-below l b i h′))
+  numbered-once (cell x y r) (cell x′ y′ r′) h h′ e =
       let p = part-once (hues z) (y * width z + x) r (y′ * width z + x′) r′ (h .2) (h′ .2) (omega arith) in
       let q = part-once (width z) y x y′ x′ (h .0) (h′ .0) (p .0) in
       rw (q .1, q .0, p .1)
 
   -- and each number from 1 to V has a name
-  pub number-named : (v : ℕ) → 0 < v → v ≤ variables z → (n : Name) × IsName z n × (number z n ≡ v)
+  pub numbered-all : (v : ℕ) → 0 < v → v ≤ variables z → (n : Name) × IsName z n × (numbered z n ≡ v)
   unfolding cellFirst variables firstAt lineAt
-  number-named v h k = elim (decLt v (firstAt z (lines z))) [
+  numbered-all v h k = elim (decLt v (firstAt z (lines z))) [
     | yes m ↦
         let (l, l-in, W) = line-of (lines z) v h m in
         let P = part-of (length (clueAt z l)) (positionsAt z l) (v - firstAt z l) (omega (arith, W .low, W .high)) in

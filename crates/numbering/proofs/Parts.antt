@@ -13,13 +13,12 @@ use Rattle.lines.proofs.Packing.{packed-length, packed-size, packed-color}
 use Rattle.puzzles.specs.Puzzle.{Puzzle, lines, clueAt}
 use Rattle.puzzles.specs.Checks.{puzzle}
 use Rattle.puzzles.specs.Good.{Good}
-use Rattle.puzzles.proofs.Accepting.{accepted-is}
+use Rattle.puzzles.proofs.Accepting.{accepted-is, accepted-sectioned}
 use Rattle.boards.specs.Layout.{lineSize, tableSize, firstWord, positionsWord, startWord}
 use Rattle.boards.specs.Table.{LineLaid, Found}
 use Rattle.boards.specs.declared.table.Parts.{Parts}
 use Rattle.boards.specs.Reading.{Held}
 use Rattle.boards.specs.declared.board.Board.{Board}
-use Rattle.boards.proofs.Boards.{accepted-sectioned}
 use Rattle.boards.proofs.Finding.{laid-first, laid-positions, laid-start}
 use Rattle.numbering.specs.Variables.{lineAt}
 use Rattle.numbering.specs.Tables.{Ready, lineOf, Sound}
@@ -29,7 +28,7 @@ use Rattle.numbering.proofs.Bounds.{line-sound}
 pub held-ready : (ws table : List ℕ) (b : Board) → Held ws table b → tableSize ≤ length table → Ready ws table
 held-ready ws table b H l = record {
   sectioned = accepted-sectioned ws (H .checked);
-  good = accepted-is ws (H .checked) .good;
+  good = accepted-is 0 ws (H .checked) .good;
   laid = H .laid;
   long = l;
 }

@@ -17,6 +17,6 @@ IsName z (position l b i) = (l < lines z) × (b < length (clueAt z l)) × (i < p
 IsName z (cell x y r) = (x < width z) × (y < height z) × (r < hues z)
 
 -- its variable
-abbrev pub number : Puzzle → Name → ℕ
-number z (position l b i) = variable (lineAt z l) b i
-number z (cell x y r) = cellVariable z x y r
+abbrev pub numbered : Puzzle → Name → ℕ
+numbered z (position l b i) = variable (lineAt z l) b i
+numbered z (cell x y r) = cellVariable z x y r

@@ -7,8 +7,8 @@ use lib.ListN.{length}
 use Rattle.puzzles.specs.Puzzle.{Puzzle, width, height, lines, clueAt}
 use Rattle.puzzles.specs.Good.{Good}
 use Rattle.numbering.specs.Variables.{lineAt, variable, hues, cellVariable, variables}
-use Rattle.numbering.specs.Names.{Name, position, cell, IsName, number}
-use Rattle.numbering.proofs.OneToOne.{number-named}
+use Rattle.numbering.specs.Names.{Name, position, cell, IsName, numbered}
+use Rattle.numbering.proofs.OneToOne.{numbered-all}
 use Rattle.truth.specs.Truth.{Assignment}
 use Rattle.pictures.specs.Pictures.{Extends, shown}
 use Rattle.pictures.proofs.EachFamily.{Said}
@@ -40,8 +40,8 @@ module _ (z : Puzzle) (G : Good z) {β γ : Assignment} (S : Said z β) (T : Sai
   ]
 
   pub same-everywhere : (v : ℕ) → 0 < v → v ≤ variables z → β v ≡ γ v
-  same-everywhere v h k = let (n, i, e) = number-named z v h k in rw (← e) (same-name n i)
+  same-everywhere v h k = let (n, i, e) = numbered-all z v h k in rw (← e) (same-name n i)
     where
-      same-name : (n : Name) → IsName z n → β (number z n) ≡ γ (number z n)
+      same-name : (n : Name) → IsName z n → β (numbered z n) ≡ γ (numbered z n)
       same-name (position l b i) (h, k, j) = unfold lineAt in same-position l b i h k j
       same-name (cell x y r) (h, k, l) = same x y r h k l

@@ -14,8 +14,8 @@ use Rattle.lines.specs.Clue.{gap}
 use Rattle.lines.proofs.Packing.{packed-length}
 use Rattle.puzzles.specs.Puzzle.{Puzzle, width, height, lines, clueAt}
 use Rattle.numbering.specs.Variables.{lineAt, hue, variables}
-use Rattle.numbering.specs.Names.{Name, position, cell, IsName, number}
-use Rattle.numbering.proofs.OneToOne.{number-within, number-once, number-named}
+use Rattle.numbering.specs.Names.{Name, position, cell, IsName, numbered}
+use Rattle.numbering.proofs.OneToOne.{numbered-within, numbered-once, numbered-all}
 use Rattle.grids.specs.Grid.{row, column}
 use Rattle.truth.specs.Truth.{value}
 use Rattle.pictures.specs.Pictures.{Extends, Model}
@@ -35,13 +35,13 @@ module _ (z : Puzzle) (grid : List ℕ) where
 
   -- and so of the variable i + 1, by its name
   abbrev ToldOf : ℕ → Bool → Type 0
-  ToldOf i b = (n : Name) → IsName z n → number z n ≡ suc i → b ≡ told n
+  ToldOf i b = (n : Name) → IsName z n → numbered z n ≡ suc i → b ≡ told n
 
   toldOf : (f : ℕ → Bool) × ((i : ℕ) → i < variables z → ToldOf i (f i))
   toldOf =
       choice ToldOf (variables z) false (λ i h.
-      let (m, j, q) = number-named z (suc i) (omega arith) h in
-      (told m, λ n k e. ap told (number-once z m n j k (q ∙ sym e))))
+      let (m, j, q) = numbered-all z (suc i) (omega arith) h in
+      (told m, λ n k e. ap told (numbered-once z m n j k (q ∙ sym e))))
 
   pub model : List ℕ
   model = tab (variables z) (λ i. cond (toldOf .0 i) 1 0)
@@ -57,10 +57,10 @@ module _ (z : Puzzle) (grid : List ℕ) where
       size = unfold model in length-tab (variables z) _
 
   -- its assignment says of each name's variable what the grid says
-  model-told : (n : Name) → IsName z n → value model (number z n) ≡ told n
+  model-told : (n : Name) → IsName z n → value model (numbered z n) ≡ told n
   model-told n h =
-      let (low, most) = number-within z n h in
-      let i = number z n - 1 in
+      let (low, most) = numbered-within z n h in
+      let i = numbered z n - 1 in
       let k : i < variables z = omega arith in
       ap (λ (x : ℕ). eqb x 1) (byte-at i k) ∙ is-byte (toldOf .0 i) ∙ toldOf .1 i k n h (omega arith)
     where

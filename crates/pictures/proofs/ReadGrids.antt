@@ -7,7 +7,7 @@ use Prim.Native.Nat.{ℕ, _*_, _<_}
 use native.Mathlib.Omega.{arith}
 use native.Mathlib.Decide.{ℕ-discrete}
 use lib.ListN.{length, getD}
-use Rattle.refusals.specs.Verdict.{accepted}
+use Rattle.refusals.specs.Verdict.{passed}
 use Rattle.bits.specs.Bits.{bit, withBit, solved}
 use Rattle.bits.proofs.SetBits.{with-same, with-keeps}
 use Rattle.puzzles.specs.Checks.{colors}
@@ -27,7 +27,7 @@ obeys-bit mask c e = rw (e, or-true) (either (solved mask))
     either true = refl
     either false = refl
 
-module _ (w h : ℕ) (grid : List ℕ) {n : ℕ} (e : accepted n ≡ gridChecks w h grid) where
+module _ (w h : ℕ) (grid : List ℕ) (e : passed ≡ gridChecks w h grid) where
   S : Sized w h grid
   S = grid-sized w h grid e
 
@@ -54,8 +54,8 @@ module _ (w h : ℕ) (grid : List ℕ) {n : ℕ} (e : accepted n ≡ gridChecks 
   }
 
 pub grids-read : GridsRead
-grids-read w h grid n e = (
-  ap (λ z. accepted (colors z)) (grid-read w h grid e) ∙ sym (grid-accepted w h grid e),
+grids-read w h grid e = (
+  grid-accepted w h grid e,
   rw (grid-read w h grid e) (grid-of w h grid e),
   rw (grid-read w h grid e) (picture-of w h grid e),
 )

@@ -43,10 +43,10 @@ unfolding
     row column sizeChecks gridChecks rowClues columnClues gridPuzzle gridWords
     literalTrue clauseTrue allTrue permits obeys colorOf shown blocking
 computed = record {
-  p8-accepted = refl;
-  p10-accepted = refl;
-  p11-accepted = refl;
-  p12-accepted = refl;
+  p8-accepted = (refl, refl);
+  p10-accepted = (refl, refl);
+  p11-accepted = (refl, refl);
+  p12-accepted = (refl, refl);
   full-read = record { checked = refl; written = refl };
   left-read = record { checked = refl; written = refl };
   falling-read = record { checked = refl; written = refl };
@@ -59,7 +59,7 @@ computed = record {
   p12-solved = refl;
   p12-shown = refl;
   p12-blocking = refl;
-  two-accepted = refl;
+  two-accepted = (refl, refl);
   touching-read = record { checked = refl; written = refl };
   two-solved = refl;
   two-shown = refl;
@@ -82,7 +82,7 @@ computed = record {
 
 -- what a grid is read as has it as a picture
 pictured : {w h : ℕ} {grid ws : List ℕ} → Read w h grid ws → Grid (puzzle ws) grid × Picture (puzzle ws) grid
-pictured {w} {h} {grid} R = subst (λ ws. Grid (puzzle ws) grid × Picture (puzzle ws) grid) (R .written) (let P = grids-read w h grid 0 (R .checked) in (P .1, P .2))
+pictured {w} {h} {grid} R = subst (λ ws. Grid (puzzle ws) grid × Picture (puzzle ws) grid) (R .written) (let P = grids-read w h grid (R .checked) in (P .1, P .2))
 
 pub small-pictures : SmallPictures
 small-pictures = record {

@@ -101,9 +101,9 @@ module _ (z : Puzzle) (G : Good z) where
 
 -- of every puzzle whose words are accepted
 pub condition-3 : Condition3
-condition-3 ws n e =
+condition-3 ws e =
     let z = puzzle ws in
-    let G = accepted-is ws e .good in
+    let G = accepted-is 0 ws e .good in
     record {
       picture = picture-is z G;
       unique = unique z G;

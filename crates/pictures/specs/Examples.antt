@@ -3,9 +3,9 @@ use mathlib.Core.Path.{_≡_}
 use mathlib.Core.Bool.{true, false}
 use mathlib.Core.List.{List, [], _∷_, map}
 use Prim.Native.Nat.{ℕ}
-use Rattle.refusals.specs.Verdict.{accepted}
+use Rattle.refusals.specs.Verdict.{passed}
 use Rattle.literals.specs.Literals.{negative}
-use Rattle.puzzles.specs.Checks.{puzzle, puzzleChecks}
+use Rattle.puzzles.specs.Checks.{colors, puzzle, puzzleChecks}
 use Rattle.grids.specs.Grid.{gridChecks, gridWords}
 use Rattle.truth.specs.Truth.{value}
 use Rattle.pictures.specs.Pictures.{IsColor, Grid, obeys, Picture, Solves, Extends, shown, blocking, Model, Unique}
@@ -69,16 +69,16 @@ touching = 2 ∷ 5 ∷ []
 
 -- `read_grid` accepts the grid and writes these words
 pub record Read (w h : ℕ) (grid ws : List ℕ) : Type 0 where
-  pub checked : accepted 0 ≡ gridChecks w h grid
+  pub checked : passed ≡ gridChecks w h grid
   pub written : gridWords w h grid ≡ ws
 
 -- what computing finds
 pub record Computed : Type 0 where
   -- the table's are accepted, and K is {1}
-  pub p8-accepted : puzzleChecks p8 ≡ accepted 2
-  pub p10-accepted : puzzleChecks p10 ≡ accepted 2
-  pub p11-accepted : puzzleChecks p11 ≡ accepted 2
-  pub p12-accepted : puzzleChecks p12 ≡ accepted 2
+  pub p8-accepted : (passed ≡ puzzleChecks p8) × (colors (puzzle p8) ≡ 2)
+  pub p10-accepted : (passed ≡ puzzleChecks p10) × (colors (puzzle p10) ≡ 2)
+  pub p11-accepted : (passed ≡ puzzleChecks p11) × (colors (puzzle p11) ≡ 2)
+  pub p12-accepted : (passed ≡ puzzleChecks p12) × (colors (puzzle p12) ≡ 2)
   -- grids that are read as them
   pub full-read : Read 1 1 full p8
   pub left-read : Read 2 1 left p10
@@ -95,7 +95,7 @@ pub record Computed : Type 0 where
   pub p12-shown : shown (puzzle p12) (value p12-model) ≡ 0 ∷ []
   pub p12-blocking : blocking (puzzle p12) (value p12-model) ≡ []
   -- the one of two colours: K is {2, 5}
-  pub two-accepted : puzzleChecks two ≡ accepted 36
+  pub two-accepted : (passed ≡ puzzleChecks two) × (colors (puzzle two) ≡ 36)
   pub touching-read : Read 2 1 touching two
   pub two-solved : Solves (puzzle two) (value two-model)
   pub two-shown : shown (puzzle two) (value two-model) ≡ touching

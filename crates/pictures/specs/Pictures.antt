@@ -7,7 +7,7 @@ use Prim.Native.Nat.{ℕ, suc, _+_, _*_, _≤_, _<_}
 use lib.Dec.{eqb}
 use lib.ListN.{length, getD}
 use Rattle.lists.specs.Each.{each, tab, when, Every}
-use Rattle.refusals.specs.Verdict.{accepted}
+use Rattle.refusals.specs.Verdict.{passed}
 use Rattle.literals.specs.Literals.{negative}
 use Rattle.bits.specs.Bits.{bit, solved}
 use Rattle.sections.specs.Sections.{Clause}
@@ -139,11 +139,11 @@ pub record Theorem (z : Puzzle) : Type 0 where
 
 -- it holds of every puzzle whose words are accepted
 abbrev pub Condition3 : Type 0
-Condition3 = (ws : List ℕ) (n : ℕ) → accepted n ≡ puzzleChecks ws → Theorem (puzzle ws)
+Condition3 = (ws : List ℕ) → passed ≡ puzzleChecks ws → Theorem (puzzle ws)
 
 -- Not vacuous: what `read_grid` writes of a grid is accepted, and the grid is a picture of it
 abbrev pub GridsRead : Type 0
 GridsRead =
-    (w h : ℕ) (grid : List ℕ) (n : ℕ) → accepted n ≡ gridChecks w h grid
-    → (accepted (colors (puzzle (gridWords w h grid))) ≡ puzzleChecks (gridWords w h grid))
+    (w h : ℕ) (grid : List ℕ) → passed ≡ gridChecks w h grid
+    → (passed ≡ puzzleChecks (gridWords w h grid))
     × Grid (puzzle (gridWords w h grid)) grid × Picture (puzzle (gridWords w h grid)) grid

@@ -10,7 +10,7 @@ use Rattle.numbering.specs.Variables.{lineAt, variables}
 use Rattle.numbering.specs.Tables.{Sound}
 use Rattle.numbering.specs.Names.{position}
 use Rattle.numbering.proofs.SoundLines.{sound-some}
-use Rattle.numbering.proofs.OneToOne.{number-within}
+use Rattle.numbering.proofs.OneToOne.{numbered-within}
 use Rattle.placed.specs.Known.{Known}
 
 module _ (z : Puzzle) (l : ℕ) (h : l < lines z) (S : Sound (lineAt z l)) where
@@ -20,4 +20,4 @@ module _ (z : Puzzle) (l : ℕ) (h : l < lines z) (S : Sound (lineAt z l)) where
   known-line b k =
       let n : b < length (clueAt z l) = omega (arith, packed-length gap (clueAt z l)) in
       let s : 0 < positionsAt z l = sound-some S in
-      omega (arith, number-within z (position l b (positionsAt z l - 1)) (h, n, omega arith) .1)
+      omega (arith, numbered-within z (position l b (positionsAt z l - 1)) (h, n, omega arith) .1)

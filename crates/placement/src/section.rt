@@ -3,7 +3,7 @@ use crate::line::line_clauses;
 use crate::rule::Rule;
 use boards::layout::LINE_SIZE;
 use boards::table::find_line;
-use literals::number;
+use literals::count_word;
 ghost use mathlib.Core.Path.{_≡_};
 ghost use Prim.Native.Nat.{_+_, _≤_, _<_};
 ghost use lib.ListN.{length};
@@ -56,7 +56,7 @@ pub fn write_lines(
     requires { ⌜ length (sectionWords (ofLines (puzzle (now words)) rule from n)) ≤ length (now out) ⌝ }
     ensures { λ r. ⌜ Wrote (sectionWords (ofLines (puzzle (now (words .entry))) rule from n)) (now (out .entry)) 0 (now (out .exit)) r ⌝ }
 {
-    out[0] = number(count);
+    out[0] = count_word(count);
     let mut to = 1;
     for k in 0..n {
         to = write_line(rule, words, table, from + k, out, to);

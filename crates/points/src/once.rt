@@ -1,6 +1,6 @@
 // Section 9: no cell has two colours. Cells column by column, top to bottom.
 use boards::board::Board;
-use literals::number;
+use literals::count_word;
 use sections::at_most_one;
 ghost use mathlib.Core.Path.{_≡_};
 ghost use Prim.Native.Nat.{_+_, _≤_, _<_};
@@ -34,7 +34,7 @@ pub fn write_points(board: Board, k: usize, count: usize, out: &mut [i32]) -> us
     requires { ⌜ count < 2147483648 ⌝ }
     ensures { λ r. ⌜ ((z : Puzzle) → Shows board k z → Wrote (sectionWords (pointOnce z)) (now (out .entry)) 0 (now (out .exit)) r) ⌝ }
 {
-    out[0] = number(count);
+    out[0] = count_word(count);
     let mut to = 1;
     for x in 0..board.width {
         to = point_once_clauses(board, k, x, out, to);

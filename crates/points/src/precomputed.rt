@@ -2,8 +2,8 @@
 use bits::mask::has;
 use bits::mask::solved;
 use boards::board::Board;
+use literals::count_word;
 use literals::no;
-use literals::number;
 use literals::yes;
 ghost use mathlib.Core.Path.{_≡_};
 ghost use mathlib.Core.List.{[], _∷_};
@@ -94,7 +94,7 @@ pub fn write_precomputed(
     requires { ⌜ length (sectionWords (precomputedCells (puzzle (now words)))) ≤ length (now out) ⌝ }
     ensures { λ r. ⌜ Wrote (sectionWords (precomputedCells (puzzle (now (words .entry))))) (now (out .entry)) 0 (now (out .exit)) r ⌝ }
 {
-    out[0] = number(count);
+    out[0] = count_word(count);
     let cells = board.cells;
     precomputed_cells_clauses(&words[cells + 1..], palette, board.first, out, 1)
 }

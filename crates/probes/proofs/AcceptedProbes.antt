@@ -7,7 +7,7 @@ use lib.Dec.{ltb}
 use lib.ListN.{length}
 use borrow.Author.Tests.{le-ltb, ltb-false}
 use Rattle.lists.specs.Each.{Every}
-use Rattle.refusals.specs.Verdict.{accepted}
+use Rattle.refusals.specs.Verdict.{passed}
 use Rattle.refusals.specs.Walk.{got, walked, readOr}
 use Rattle.refusals.proofs.Answering.{refuse-accepted}
 use Rattle.refusals.proofs.Readers.{Reads, walked-is}
@@ -32,11 +32,11 @@ module _ (w h K : ℕ) (us : List ℕ) where
   unfolding readProbes
   probes-only ps j vs e = probes-reader w h K .only 0 us ps j vs e
 
-  pub accepted-probes : {n : ℕ} → accepted n ≡ checksOn w h K us → Accepted w h K us
+  pub accepted-probes : passed ≡ checksOn w h K us → Accepted w h K us
   accepted-probes e =
       let r = refuse-accepted (ltb 1048576 (length us)) _ _ _ e in
       let a = walked-is [] 11 (readProbes w h K us) probes-only (r .1) in
-      record { few = ltb-false 1048576 (length us) (r .0); words-are = a .0; fine = a .2 }
+      record { few = ltb-false 1048576 (length us) (r .0); words-are = a .0; fine = a .1 }
 
 -- ---- the words of such probes, for a puzzle
 
@@ -48,7 +48,7 @@ module _ (z : Puzzle) (ps : List Probe) (fine : Every noProbe (FineProbe (width 
       ∙ probes-reader (width z) (height z) (colors z) .back 0 ps [] fine
       ∙ ap (λ k. got ps k []) (zero-add (length (listWords ps)))
 
-  pub probes-accepted : length (listWords ps) ≤ 1048576 → accepted (length (listWords ps)) ≡ probeChecks z (listWords ps)
+  pub probes-accepted : length (listWords ps) ≤ 1048576 → passed ≡ probeChecks z (listWords ps)
   unfolding walked
   probes-accepted few = rw (le-ltb _ _ few, reads)
 

@@ -1,10 +1,4 @@
 pub mod ProbeReaders
 pub mod ProbeWalk
 pub mod AcceptedProbes
-pub mod ProbesMeaning
-pub mod ProbePlaces
-pub mod ProbeSizes
-pub mod Counting
-pub mod CellClauses
-pub mod ProbeClauses
-pub mod Calling
+pub mod Stopping

@@ -24,7 +24,7 @@ use Rattle.probes.proofs.ProbeReaders.{claim-reader}
 -- ---- a claim
 
 module _ (w h at : ℕ) (part : List ℕ) where
-  abbrev Comes : Verdict → Type 0
+  abbrev Comes : Verdict ℕ → Type 0
   Comes v = v ≡ outcome (readClaim w h at part)
 
   pub x-missing : length part ≡ 0 → Comes (refused 1 at)
@@ -92,6 +92,6 @@ module _ (w h at : ℕ) (part : List ℕ) {a : Answer} (told-is : told a ≡ out
     probe-color-off K e = sym (rw (premise-got .1, e))
 
     -- the impacts are read from the part that is left, `&part[3..]`
-    pub probe-color-on : (K : ℕ) → isColor K (getD part 2 0) ≡ true → {v : Verdict} → v ≡ outcome (listed (readClaim w h) (at + 3) (take (length part - 3) (drop 3 part))) → v ≡ outcome (readProbe w h K at part)
+    pub probe-color-on : (K : ℕ) → isColor K (getD part 2 0) ≡ true → {v : Verdict ℕ} → v ≡ outcome (listed (readClaim w h) (at + 3) (take (length part - 3) (drop 3 part))) → v ≡ outcome (readProbe w h K at part)
     unfolding readProbe
     probe-color-on K e t = t ∙ rw (tail-is part 3, premise-got .1, e) (sym (next-keeps _ (listed (readClaim w h) (at + 3) (drop 3 part))))

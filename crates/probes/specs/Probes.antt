@@ -5,7 +5,7 @@ use mathlib.Core.List.{List, []}
 use Prim.Native.Nat.{ℕ, _+_}
 use lib.Dec.{eqb, leb, ltb}
 use lib.ListN.{length}
-use Rattle.refusals.specs.Verdict.{Verdict, refuse}
+use Rattle.refusals.specs.Verdict.{Checks, refuse}
 use Rattle.refusals.specs.Walk.{Walk, got, walked, readOr, stopIf, next, word, counted}
 use Rattle.bits.specs.Bits.{bit}
 use Rattle.puzzles.specs.Puzzle.{Puzzle, width, height}
@@ -47,12 +47,12 @@ unfoldable pub readProbes : ℕ → ℕ → ℕ → List ℕ → Walk ℕ (List 
 readProbes w h K ws = listed (readProbe w h K) 0 ws
 
 -- 20, the walk, 11
-abbrev pub checksOn : ℕ → ℕ → ℕ → List ℕ → Verdict
+abbrev pub checksOn : ℕ → ℕ → ℕ → List ℕ → Checks
 checksOn w h K ws = refuse (ltb 1048576 (length ws)) 20 (length ws) (walked 11 (readProbes w h K ws))
 
 -- of a puzzle: the probes that words hold, and their refusals
 abbrev pub probes : Puzzle → List ℕ → List Probe
 probes z ws = readOr [] (readProbes (width z) (height z) (colors z) ws)
 
-abbrev pub probeChecks : Puzzle → List ℕ → Verdict
+abbrev pub probeChecks : Puzzle → List ℕ → Checks
 probeChecks z ws = checksOn (width z) (height z) (colors z) ws

@@ -1,7 +1,2 @@
-// The implications of probes: what a probed colour of a cell is found to imply, as clauses.
-pub mod call;
-mod count;
-mod impact;
-mod premise;
-mod read;
-mod write;
+// Probe words: what they hold, and the walk over them.
+pub mod read;

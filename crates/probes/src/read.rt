@@ -7,7 +7,7 @@ use refusals::Refusal;
 ghost use mathlib.Core.Path.{_≡_};
 ghost use Prim.Native.Nat.{_+_, _^_, _<_};
 ghost use lib.ListN.{length};
-ghost use Rattle.refusals.specs.Told.{told};
+ghost use Rattle.refusals.specs.Told.{checked, told};
 ghost use Rattle.refusals.specs.Walk.{outcome, times};
 ghost use Rattle.probes.specs.Probes.{readClaim, listed, isColor, readProbe, readProbes, checksOn};
 
@@ -114,9 +114,9 @@ fn read_probes(width: usize, height: usize, colors: u32, probe: &[u32]) -> Answe
     read_probe_list(wide(probe[0]), width, height, colors, &probe[1..], 1)
 }
 
-// Document 01's order: 20, the walk, 11; and else how many words there are.
+// Document 01's order: 20, the walk, 11.
 pub fn check_probes(width: usize, height: usize, colors: u32, probe: &[u32]) -> Answer
-    ensures { λ r. ⌜ told r ≡ checksOn width height colors (now (probe .entry)) ⌝ }
+    ensures { λ r. ⌜ checked r ≡ checksOn width height colors (now (probe .entry)) ⌝ }
 {
     if 1_048_576 < probe.len() {
         return Answer::Refused(Refusal::TooManyProbeWords(probe.len()));

@@ -4,13 +4,12 @@ use mathlib.Core.Bool.{true, false, not}
 use mathlib.Core.List.{List, [], _∷_, append-nil}
 use Prim.Native.Nat.{ℕ, zero, suc, _+_, _≤_, _<_}
 use native.Mathlib.Omega.{arith}
-use native.Mathlib.Nat.{zero-add}
 use lib.Dec.{eqb, ltb}
 use lib.ListN.{length, getD}
 use borrow.Author.Tests.{eqb-false, eqb-true, eq-eqb, ne-eqb, le-ltb, ltb-false}
 use Rattle.lists.proofs.Tests.{neither, both, not-false}
-use Rattle.refusals.specs.Verdict.{accepted, andThen}
-use Rattle.refusals.specs.Walk.{got, walked, readOr}
+use Rattle.refusals.specs.Verdict.{passed}
+use Rattle.refusals.specs.Walk.{Walk, got, walked, readOr}
 use Rattle.refusals.proofs.Answering.{first-accepted, then-accepted}
 use Rattle.refusals.proofs.Offending.{none-off, off-none}
 use Rattle.refusals.proofs.Readers.{walked-is}
@@ -22,9 +21,9 @@ use Rattle.lines.proofs.Checks.{size-within}
 use Rattle.puzzles.specs.Puzzle.{Puzzle, width, height, lines, clueAt, lengthAt, puzzleWords}
 use Rattle.puzzles.specs.Colors.{known, offSolved}
 use Rattle.puzzles.specs.Walk.{readPuzzle}
-use Rattle.puzzles.specs.Checks.{colors, spaceChecks, columnChecks, solvedChecks, spaces, meaningChecks, puzzle, Sectioned, puzzleChecks}
+use Rattle.puzzles.specs.Checks.{colors, spaceChecks, columnChecks, solvedChecks, spaces, meaningChecks, puzzleOf, checksOf, puzzle, Sectioned, puzzleChecks}
 use Rattle.puzzles.specs.Good.{Good}
-use Rattle.puzzles.proofs.Readers.{FineClue, FinePuzzle, puzzle-only, puzzle-back}
+use Rattle.puzzles.proofs.Readers.{FineClue, FinePuzzle, puzzle-reader}
 use Rattle.puzzles.proofs.Lines.{clue-column, clue-row, each-line, spaces-fit}
 
 -- ---- colours that are known
@@ -67,37 +66,33 @@ pub fine-lines : (z : Puzzle) → FinePuzzle z → (l : ℕ) → l < lines z →
 fine-lines z F = each-line z FineLine (λ l h. fine-line (height z) _ (F .rows .0) (F .columns .1 l h)) (λ l h. fine-line (width z) _ (F .columns .0) (F .rows .1 l h))
 
 module _ (z : Puzzle) where
-  good-of : {n : ℕ} → FinePuzzle z → accepted n ≡ meaningChecks z → Good z × (n ≡ colors z)
+  good-of : FinePuzzle z → passed ≡ meaningChecks z → Good z
   unfolding meaningChecks spaces
-  good-of {n} F e =
-      let c = then-accepted (spaceChecks (height z) 0 (z .columns)) _ e in
-      let r = then-accepted (spaceChecks (width z) (width z) (z .rows)) _ c in
-      let k = then-accepted (columnChecks (colors z) (z .columns)) _ r in
-      let m = then-accepted (solvedChecks (colors z) (z .masks)) _ k in
-      let C = first-accepted (spaceChecks (height z) 0 (z .columns)) _ e in
-      let R = first-accepted (spaceChecks (width z) (width z) (z .rows)) _ c in
-      let K = first-accepted (columnChecks (colors z) (z .columns)) _ r in
-      let M = first-accepted (solvedChecks (colors z) (z .masks)) _ k in
-      let fine = fine-lines z F in (
-        record {
-          width-some = size-some (width z) (F .columns .0);
-          width-most = size-within (width z) (F .columns .0);
-          height-some = size-some (height z) (F .rows .0);
-          height-most = size-within (height z) (F .rows .0);
-          few = λ l h. fine l h .few;
-          proper = λ l h. fine l h .proper;
-          colors-most = λ l b h g. fine l h .colors-most b g;
-          fits = each-line z (λ n bs. minSpace gap bs ≤ n)
-              (λ l h. ltb-false _ _ (none-off [] (λ bs. ltb (height z) (minSpace gap bs)) 6 0 (z .columns) (C .1) l h))
-              (λ l h. ltb-false _ _ (none-off [] (λ bs. ltb (width z) (minSpace gap bs)) 6 (width z) (z .rows) (R .1) l h));
-          area = eqb-true _ _ (not-false _ (F .masks .0));
-          masks-some = λ i h. omega (arith, eqb-false (getD (z .masks) i 0) 0 (F .masks .1 i h));
-          columns-known = λ l b h g. rw (clue-column z l h)
-              (known-each (colors z) (getD (z .columns) l []) (not-false _ (none-off [] (λ bs. not (known (colors z) bs)) 9 0 (z .columns) (K .1) l h)) b (rw (clue-column z l h) at g));
-          solved-known = none-off 0 (offSolved (colors z)) 10 0 (z .masks) (M .1);
-        },
-        cc,
-      )
+  good-of F e =
+      let s = first-accepted (spaces z) _ e in
+      let C = first-accepted (spaceChecks (height z) 0 (z .columns)) _ s in
+      let R = then-accepted (spaceChecks (height z) 0 (z .columns)) _ s in
+      let k = then-accepted (spaces z) _ e in
+      let K = first-accepted (columnChecks (colors z) (z .columns)) _ k in
+      let M = then-accepted (columnChecks (colors z) (z .columns)) _ k in
+      let fine = fine-lines z F in
+      record {
+        width-some = size-some (width z) (F .columns .0);
+        width-most = size-within (width z) (F .columns .0);
+        height-some = size-some (height z) (F .rows .0);
+        height-most = size-within (height z) (F .rows .0);
+        few = λ l h. fine l h .few;
+        proper = λ l h. fine l h .proper;
+        colors-most = λ l b h g. fine l h .colors-most b g;
+        fits = each-line z (λ n bs. minSpace gap bs ≤ n)
+            (λ l h. ltb-false _ _ (none-off [] (λ bs. ltb (height z) (minSpace gap bs)) 6 0 (z .columns) C l h))
+            (λ l h. ltb-false _ _ (none-off [] (λ bs. ltb (width z) (minSpace gap bs)) 6 (width z) (z .rows) R l h));
+        area = eqb-true _ _ (not-false _ (F .masks .0));
+        masks-some = λ i h. omega (arith, eqb-false (getD (z .masks) i 0) 0 (F .masks .1 i h));
+        columns-known = λ l b h g. rw (clue-column z l h)
+            (known-each (colors z) (getD (z .columns) l []) (not-false _ (none-off [] (λ bs. not (known (colors z) bs)) 9 0 (z .columns) K l h)) b (rw (clue-column z l h) at g));
+        solved-known = none-off 0 (offSolved (colors z)) 10 0 (z .masks) M;
+      }
 
   module _ (G : Good z) where
     fine-clue : (l : ℕ) → l < lines z → FineClue (clueAt z l)
@@ -113,58 +108,51 @@ module _ (z : Puzzle) where
       masks = (rw (eq-eqb _ _ (G .area)), λ i h. ne-eqb (getD (z .masks) i 0) 0 (λ e. omega (arith, G .masks-some i h)));
     }
 
-    meaning-of : meaningChecks z ≡ accepted (colors z)
+    meaning-of : meaningChecks z ≡ passed
     unfolding meaningChecks
     meaning-of = rw (
-      spaces-fit z (G .fits) (andThen (columnChecks (colors z) (z .columns)) (andThen (solvedChecks (colors z) (z .masks)) (accepted (colors z)))),
+      spaces-fit z (G .fits),
       off-none [] (λ bs. not (known (colors z) bs)) 9 0 (z .columns)
           (λ l h. rw (each-known (colors z) (getD (z .columns) l []) (λ b g. rw (clue-column z l h) at (G .columns-known l b h (rw (clue-column z l h) g))))),
       off-none 0 (offSolved (colors z)) 10 0 (z .masks) (G .solved-known),
     )
 
-    reads : readPuzzle (puzzleWords z) ≡ got z (length (puzzleWords z)) []
-    reads = ap readPuzzle (sym (append-nil (puzzleWords z))) ∙ puzzle-back z [] fine-of
+    -- its words are read as it, from any place on
+    reads : (i : ℕ) → readPuzzle i (puzzleWords z) ≡ got z (i + length (puzzleWords z)) []
+    reads i = ap (readPuzzle i) (sym (append-nil (puzzleWords z))) ∙ puzzle-reader .back i z [] fine-of
 
-    -- its words are accepted
-    pub good-accepted : puzzleChecks (puzzleWords z) ≡ accepted (colors z)
-    unfolding walked readOr
-    good-accepted = rw reads meaning-of
-
-    -- and read as it
-    pub good-read : puzzle (puzzleWords z) ≡ z
+    pub good-read : (i : ℕ) → puzzleOf (readPuzzle i (puzzleWords z)) ≡ z
     unfolding readOr
-    good-read = rw reads
+    good-read i = rw (reads i)
+
+    -- and accepted
+    pub good-accepted : (i : ℕ) → passed ≡ checksOf (readPuzzle i (puzzleWords z))
+    unfolding walked readOr
+    good-accepted i = sym (rw (reads i) meaning-of)
 
 -- ---- accepted words
 
-pub record Accepted (ws : List ℕ) (n : ℕ) : Type 0 where
-  pub words-are : ws ≡ puzzleWords (puzzle ws)
-  pub good : Good (puzzle ws)
-  pub colors-are : n ≡ colors (puzzle ws)
+-- what holds once the sections are read, from place i on
+pub record Walked (i : ℕ) (ws : List ℕ) : Type 0 where
+  pub words-are : ws ≡ puzzleWords (puzzleOf (readPuzzle i ws))
+  pub fine : FinePuzzle (puzzleOf (readPuzzle i ws))
 
--- what holds once the sections are read
-pub record Walked (ws : List ℕ) : Type 0 where
-  pub words-are : ws ≡ puzzleWords (puzzle ws)
-  pub fine : FinePuzzle (puzzle ws)
+pub record Accepted (i : ℕ) (ws : List ℕ) : Type 0 where
+  pub words-are : ws ≡ puzzleWords (puzzleOf (readPuzzle i ws))
+  pub good : Good (puzzleOf (readPuzzle i ws))
 
-module _ (ws : List ℕ) where
-  walked-by : {n : ℕ} → accepted n ≡ walked 11 (readPuzzle ws) → (ws ≡ puzzleWords (puzzle ws)) × (n ≡ 0 + length ws) × FinePuzzle (puzzle ws)
-  walked-by e = walked-is _ 11 (readPuzzle ws) (puzzle-only ws) e
+module _ (i : ℕ) (ws : List ℕ) where
+  pub walked-sections : passed ≡ walked 11 (readPuzzle i ws) → Walked i ws
+  walked-sections e = let a = walked-is _ 11 (readPuzzle i ws) (puzzle-reader .only i ws) e in record { words-are = a .0; fine = a .1 }
 
-  pub sectioned-is : {n : ℕ} → accepted n ≡ walked 11 (readPuzzle ws) → Sectioned ws
-  sectioned-is e = rw (walked-by e .1 ∙ zero-add (length ws)) at e
+  -- the one inversion: all that holds of accepted words
+  pub accepted-is : passed ≡ checksOf (readPuzzle i ws) → Accepted i ws
+  accepted-is e =
+      let W = walked-sections (first-accepted (walked 11 (readPuzzle i ws)) _ e) in
+      record { words-are = W .words-are; good = good-of (puzzleOf (readPuzzle i ws)) (W .fine) (then-accepted (walked 11 (readPuzzle i ws)) _ e) }
 
-  module _ (S : Sectioned ws) where
-    pub walked-sections : Walked ws
-    walked-sections = let a = walked-by S in record { words-are = a .0; fine = a .2 }
+pub accepted-sectioned : (ws : List ℕ) → passed ≡ puzzleChecks ws → Sectioned ws
+accepted-sectioned ws e = first-accepted (walked 11 (readPuzzle 0 ws)) _ e
 
-    pub sizes : (width (puzzle ws) ≤ 64) × (height (puzzle ws) ≤ 64)
-    sizes = let F = walked-sections .fine in (size-within (width (puzzle ws)) (F .columns .0), size-within (height (puzzle ws)) (F .rows .0))
-
--- the one inversion: all that holds of accepted words
-pub accepted-is : (ws : List ℕ) {n : ℕ} → accepted n ≡ puzzleChecks ws → Accepted ws n
-accepted-is ws e =
-    let s = first-accepted (walked 11 (readPuzzle ws)) (meaningChecks (puzzle ws)) e in
-    let W = walked-sections ws (sectioned-is ws (s .1)) in
-    let g = good-of (puzzle ws) (W .fine) (then-accepted (walked 11 (readPuzzle ws)) (meaningChecks (puzzle ws)) e) in
-    record { words-are = W .words-are; good = g .0; colors-are = g .1 }
+pub sizes : (ws : List ℕ) → Sectioned ws → (width (puzzle ws) ≤ 64) × (height (puzzle ws) ≤ 64)
+sizes ws S = let F = walked-sections 0 ws S .fine in (size-within (width (puzzle ws)) (F .columns .0), size-within (height (puzzle ws)) (F .rows .0))

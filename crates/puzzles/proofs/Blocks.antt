@@ -14,7 +14,7 @@ use Rattle.lines.specs.Calls.{offColor}
 use Rattle.puzzles.specs.Walk.{readBlock}
 
 module _ (at : ℕ) (part : List ℕ) where
-  abbrev Comes : Verdict → Type 0
+  abbrev Comes : Verdict ℕ → Type 0
   Comes v = v ≡ outcome (readBlock at part)
 
   pub size-missing : length part ≡ 0 → Comes (refused 1 at)

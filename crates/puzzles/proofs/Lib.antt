@@ -4,3 +4,4 @@ pub mod Accepting
 pub mod ColorSets
 pub mod Blocks
 pub mod Places
+pub mod Stopping

@@ -10,7 +10,7 @@ use lib.Dec.{ltb}
 use lib.ListN.{getD, List·getD-append}
 use lib.Seq.{getD-append-add}
 use borrow.Author.Tests.{lt-ltb, le-ltb}
-use Rattle.refusals.specs.Verdict.{Verdict, accepted, refused}
+use Rattle.refusals.specs.Verdict.{passed, refused}
 use Rattle.refusals.proofs.Offending.{off-none, off-at}
 use Rattle.lines.specs.Clue.{Block, gap, minSpace}
 use Rattle.puzzles.specs.Puzzle.{Puzzle, width, height, lines, clueAt, lengthAt}
@@ -58,19 +58,19 @@ module _ (z : Puzzle) where
   fits-row : (l : ℕ) → Fits (width z + l) → ltb (width z) (minSpace gap (getD (z .rows) l [])) ≡ false
   fits-row l f = le-ltb _ _ (rw (clue-row z l, length-row z l) at f)
 
-  columns-fit : ((l : ℕ) → l < width z → Fits l) → spaceChecks (height z) 0 (z .columns) ≡ accepted 0
+  columns-fit : ((l : ℕ) → l < width z → Fits l) → spaceChecks (height z) 0 (z .columns) ≡ passed
   columns-fit f = off-none [] (λ bs. ltb (height z) (minSpace gap bs)) 6 0 (z .columns) (λ l h. fits-column l h (f l h))
 
-  pub spaces-fit : ((l : ℕ) → l < lines z → Fits l) → (v : Verdict) → spaces z v ≡ v
+  pub spaces-fit : ((l : ℕ) → l < lines z → Fits l) → spaces z ≡ passed
   unfolding spaces
-  spaces-fit f v = rw (
+  spaces-fit f = rw (
     columns-fit (λ l h. f l (omega arith)),
     off-none [] (λ bs. ltb (width z) (minSpace gap bs)) 6 (width z) (z .rows) (λ l h. fits-row l (f (width z + l) (omega arith))),
   )
 
-  pub spaces-short : (v : Verdict) (l : ℕ) → l < lines z → ((j : ℕ) → j < l → Fits j) → lengthAt z l < minSpace gap (clueAt z l) → refused 6 l ≡ spaces z v
+  pub spaces-short : (l : ℕ) → l < lines z → ((j : ℕ) → j < l → Fits j) → lengthAt z l < minSpace gap (clueAt z l) → refused 6 l ≡ spaces z
   unfolding spaces
-  spaces-short v l h f s = elim (decLt l (width z)) [
+  spaces-short l h f s = elim (decLt l (width z)) [
     | yes k ↦
         let e = off-at [] (λ bs. ltb (height z) (minSpace gap bs)) 6 0 (z .columns) l k (λ j g. fits-column j (omega arith) (f j g)) (lt-ltb _ _ (rw (clue-column z l k, length-column z l k) at s)) in
         rw (e, zero-add)

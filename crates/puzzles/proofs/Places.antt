@@ -20,79 +20,95 @@ use Rattle.refusals.proofs.Readers.{Reader}
 use Rattle.lines.proofs.Checks.{size-within}
 use Rattle.puzzles.specs.Puzzle.{linesWords, cellsWords, rowsAt}
 use Rattle.puzzles.specs.Walk.{readLines, readCells, readPuzzle}
-use Rattle.puzzles.specs.Checks.{puzzle}
-use Rattle.puzzles.proofs.Readers.{FineLines, FineCells}
+use Rattle.puzzles.specs.Checks.{puzzleOf}
+use Rattle.puzzles.proofs.Readers.{FineLines, FineCells, lines-reader}
 
--- a section of the words from place i up to place j
-pub record Section {A : Type 0} (f : ℕ → List ℕ → Walk ℕ A) (W : A → List ℕ) (Fine : A → Type 0) (words : List ℕ) (i j : ℕ) : Type 0 where
+-- a section of the words that begin at place `at`, from place i up to place j
+pub record Section {A : Type 0} (f : ℕ → List ℕ → Walk ℕ A) (W : A → List ℕ) (Fine : A → Type 0) (at : ℕ) (part : List ℕ) (i j : ℕ) : Type 0 where
   pub value : A
-  pub got-is : f i (drop i words) ≡ got value j (drop j words)
-  pub words-are : drop i words ≡ W value ++ drop j words
+  pub got-is : f i (drop (i - at) part) ≡ got value j (drop (j - at) part)
+  pub words-are : drop (i - at) part ≡ W value ++ drop (j - at) part
   pub place-is : j ≡ i + length (W value)
-  pub within : j ≤ length words
+  pub low : at ≤ i
+  pub within : j ≤ at + length part
   pub fine : Fine value
 
-pub section-read : {A : Type 0} {f : ℕ → List ℕ → Walk ℕ A} {W : A → List ℕ} {Fine : A → Type 0} (R : Reader f W Fine) (words : List ℕ) (i : ℕ) → i ≤ length words
-    → {a : Answer} {j : ℕ} → a ≡ Accepted j → told a ≡ outcome (f i (drop i words)) → Section f W Fine words i j
-section-read {A} {f} {W} R words i h {a} {j} r e =
-    let g = outcome-got (f i (drop i words)) (sym (ap told r) ∙ e) in
-    let o = R .only i (drop i words) (g .value) j (g .left) (g .got-is) in
-    let l : g .left ≡ drop j words = sym (drop-at (W (g .value)) (g .left) (length (W (g .value))) refl) ∙ ap (drop (length (W (g .value)))) (sym (o .words-are)) ∙ drop-drop (length (W (g .value))) i words ∙ ap (λ (k : ℕ). drop k words) (sym (o .place-is)) in
+pub section-read : {A : Type 0} {f : ℕ → List ℕ → Walk ℕ A} {W : A → List ℕ} {Fine : A → Type 0} (R : Reader f W Fine) (at : ℕ) (part : List ℕ) (i : ℕ) → at ≤ i → i ≤ at + length part
+    → {a : Answer} {j : ℕ} → a ≡ Accepted j → told a ≡ outcome (f i (drop (i - at) part)) → Section f W Fine at part i j
+section-read {A} {f} {W} R at part i b h {a} {j} r e =
+    let g = outcome-got (f i (drop (i - at) part)) (sym (ap told r) ∙ e) in
+    let o = R .only i (drop (i - at) part) (g .value) j (g .left) (g .got-is) in
+    let n : i - at + length (W (g .value)) ≡ j - at = omega (arith, o .place-is) in
+    let l : g .left ≡ drop (j - at) part = sym (drop-at (W (g .value)) (g .left) (length (W (g .value))) refl) ∙ ap (drop (length (W (g .value)))) (sym (o .words-are)) ∙ drop-drop (length (W (g .value))) (i - at) part ∙ ap (λ (k : ℕ). drop k part) n in
     record {
       value = g .value;
       got-is = g .got-is ∙ ap (got (g .value) j) l;
       words-are = o .words-are ∙ ap (λ (t : List ℕ). W (g .value) ++ t) l;
       place-is = o .place-is;
-      within = omega (arith, o .place-is, ap length (o .words-are), length-append (W (g .value)) (g .left), length-drop i words);
+      low = b;
+      within = omega (arith, o .place-is, ap length (o .words-are), length-append (W (g .value)) (g .left), length-drop (i - at) part);
       fine = o .fine;
     }
 
-abbrev pub Lines : List ℕ → ℕ → ℕ → Type 0
+abbrev pub Lines : ℕ → List ℕ → ℕ → ℕ → Type 0
 Lines = Section readLines linesWords FineLines
 
-abbrev pub Cells : ℕ → List ℕ → ℕ → ℕ → Type 0
+abbrev pub Cells : ℕ → ℕ → List ℕ → ℕ → ℕ → Type 0
 Cells area = Section (readCells area) cellsWords (FineCells area)
 
+-- the first begins where the words do
+at-first : (at : ℕ) (part : List ℕ) → drop (at - at) part ≡ part
+at-first at part = let e : at - at ≡ 0 = omega arith in rw e
+
+pub columns-read : (at : ℕ) (part : List ℕ) {a : Answer} {j : ℕ} → a ≡ Accepted j → told a ≡ outcome (readLines at part) → Lines at part at j
+columns-read at part r e = section-read lines-reader at part at (omega arith) (omega arith) r (rw (at-first at part) e)
+
 -- the count stands at its front
-pub count-is : (words : List ℕ) (i j : ℕ) (S : Lines words i j) → (i < length words) × (getD words i 0 ≡ length (S .value)) × (getD words i 0 ≤ 64)
+pub count-is : (at : ℕ) (part : List ℕ) (i j : ℕ) (S : Lines at part i j) → (i - at < length part) × (getD part (i - at) 0 ≡ length (S .value)) × (getD part (i - at) 0 ≤ 64)
 unfolding linesWords
-count-is words i j S =
-    let e : getD words i 0 ≡ length (S .value) = ap (λ (k : ℕ). getD words k 0) (omega arith) ∙ sym (getD-drop i words 0 0) ∙ ap (λ (l : List ℕ). getD l 0 0) (S .words-are) in
-    (omega (arith, ap length (S .words-are), length-drop i words), e, omega (arith, size-within (length (S .value)) (S .fine .0)))
+count-is at part i j S =
+    let e : getD part (i - at) 0 ≡ length (S .value) = ap (λ (k : ℕ). getD part k 0) (omega arith) ∙ sym (getD-drop (i - at) part 0 0) ∙ ap (λ (l : List ℕ). getD l 0 0) (S .words-are) in
+    (omega (arith, ap length (S .words-are), length-drop (i - at) part), e, omega (arith, size-within (length (S .value)) (S .fine .0)))
+
+pub first-count : (at : ℕ) (part : List ℕ) (j : ℕ) (S : Lines at part at j) → (0 < length part) × (getD part 0 0 ≡ length (S .value)) × (getD part 0 0 ≤ 64)
+first-count at part j S =
+    let e : at - at ≡ 0 = omega arith in
+    rw e at (count-is at part at j S)
 
 -- ---- the check, by the way that it goes
 
-module _ (words : List ℕ) where
-  abbrev Checked : Verdict → Type 0
-  Checked v = v ≡ andThen (walked 11 (readPuzzle words)) (accepted (rowsAt (puzzle words)))
+module _ (at : ℕ) (part : List ℕ) where
+  abbrev Checked : Verdict ℕ → Type 0
+  Checked v = v ≡ andThen (walked 11 (readPuzzle at part)) (accepted (at + rowsAt (puzzleOf (readPuzzle at part))))
 
-  pub columns-refused : {a : Answer} {why : Refusal} → a ≡ Refused why → told a ≡ outcome (readLines 0 words) → Checked (told a)
+  pub columns-refused : {a : Answer} {why : Refusal} → a ≡ Refused why → told a ≡ outcome (readLines at part) → Checked (told a)
   unfolding readPuzzle walked
-  columns-refused r e = refused-told r ∙ rw (stopped (readLines 0 words) (sym e ∙ refused-told r))
+  columns-refused r e = refused-told r ∙ rw (stopped (readLines at part) (sym e ∙ refused-told r))
 
-  module _ {rows : ℕ} (C : Lines words 0 rows) where
-    pub rows-refused : {a : Answer} {why : Refusal} → a ≡ Refused why → told a ≡ outcome (readLines rows (take (length words - rows) (drop rows words))) → Checked (told a)
+  module _ {rows : ℕ} (C : Lines at part at rows) where
+    columns-got : readLines at part ≡ got (C .value) rows (drop (rows - at) part)
+    columns-got = rw (at-first at part) at (C .got-is)
+
+    pub rows-refused : {a : Answer} {why : Refusal} → a ≡ Refused why → told a ≡ outcome (readLines rows (take (length part - (rows - at)) (drop (rows - at) part))) → Checked (told a)
     unfolding readPuzzle walked
-    rows-refused r e = refused-told r ∙ rw (C .got-is, stopped (readLines rows (drop rows words)) (sym (rw (tail-is words rows) at e) ∙ refused-told r))
+    rows-refused r e = refused-told r ∙ rw (columns-got, stopped (readLines rows (drop (rows - at) part)) (sym (rw (tail-is part (rows - at)) at e) ∙ refused-told r))
 
-    module _ {cells : ℕ} (R : Lines words rows cells) {w h : ℕ} (we : w ≡ getD words 0 0) (he : h ≡ getD words rows 0) where
+    module _ {cells : ℕ} (R : Lines at part rows cells) {w h : ℕ} (we : w ≡ getD part 0 0) (he : h ≡ getD part (rows - at) 0) where
       area-is : w * h ≡ length (C .value) * length (R .value)
-      area-is = rw (we, he, count-is words 0 rows C .1, count-is words rows cells R .1)
+      area-is = rw (we, he, first-count at part rows C .1, count-is at part rows cells R .1)
 
-      pub cells-refused : {a : Answer} {why : Refusal} → a ≡ Refused why → told a ≡ outcome (readCells (w * h) cells (take (length words - cells) (drop cells words))) → Checked (told a)
+      pub cells-refused : {a : Answer} {why : Refusal} → a ≡ Refused why → told a ≡ outcome (readCells (w * h) cells (take (length part - (cells - at)) (drop (cells - at) part))) → Checked (told a)
       unfolding readPuzzle walked
-      cells-refused r e = refused-told r ∙ rw (C .got-is, R .got-is, ← area-is, stopped (readCells (w * h) cells (drop cells words)) (sym (rw (tail-is words cells) at e) ∙ refused-told r))
+      cells-refused r e = refused-told r ∙ rw (columns-got, R .got-is, ← area-is, stopped (readCells (w * h) cells (drop (cells - at) part)) (sym (rw (tail-is part (cells - at)) at e) ∙ refused-told r))
 
-      module _ {end : ℕ} (M : Cells (w * h) words cells end) where
-        pub left-over : end < length words → Checked (refused 11 end)
+      module _ {end : ℕ} (M : Cells (w * h) at part cells end) where
+        pub left-over : end - at < length part → Checked (refused 11 end)
         unfolding readPuzzle walked
-        left-over l = rw (C .got-is, R .got-is, ← area-is, M .got-is, lt-ltb 0 (length (drop end words)) (omega (arith, length-drop end words)))
+        left-over l = rw (columns-got, R .got-is, ← area-is, M .got-is, lt-ltb 0 (length (drop (end - at) part)) (omega (arith, length-drop (end - at) part)))
 
-        pub sections-are : length words ≤ end → Checked (accepted rows)
+        pub sections-are : length part ≤ end - at → Checked (accepted rows)
         unfolding readPuzzle walked readOr rowsAt
-        sections-are l =
-            let p : rows ≡ length (linesWords (C .value)) = omega (arith, C .place-is) in
-            rw (C .got-is, R .got-is, ← area-is, M .got-is, le-ltb 0 (length (drop end words)) (omega (arith, length-drop end words)), ← p)
+        sections-are l = rw (columns-got, R .got-is, ← area-is, M .got-is, le-ltb 0 (length (drop (end - at) part)) (omega (arith, length-drop (end - at) part)), ← C .place-is)
 
 pub area-most : (w h : ℕ) → w ≤ 64 → h ≤ 64 → w * h ≤ 4096
 area-most w h p q = omega (arith, mul-le-mul-right h p)

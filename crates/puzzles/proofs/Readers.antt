@@ -103,13 +103,13 @@ pub record FinePuzzle (z : Puzzle) : Type 0 where
   pub rows : FineLines (z .rows)
   pub masks : FineCells (width z * height z) (z .masks)
 
-pub puzzle-only : (ws : List ℕ) (z : Puzzle) (j : ℕ) (us : List ℕ) → readPuzzle ws ≡ got z j us → Reads puzzleWords FinePuzzle 0 ws z j us
+puzzle-only : (i : ℕ) (ws : List ℕ) (z : Puzzle) (j : ℕ) (us : List ℕ) → readPuzzle i ws ≡ got z j us → Reads puzzleWords FinePuzzle i ws z j us
 unfolding readPuzzle puzzleWords
-puzzle-only ws z j us e =
-    let p = next-got (readLines 0 ws) _ e in
+puzzle-only i ws z j us e =
+    let p = next-got (readLines i ws) _ e in
     let q = next-got (readLines (p .place) (p .left)) _ (p .then) in
     let r = next-got (readCells (length (p .value) * length (q .value)) (q .place) (q .left)) _ (q .then) in
-    let C = lines-reader .only 0 ws (p .value) (p .place) (p .left) (p .got-is) in
+    let C = lines-reader .only i ws (p .value) (p .place) (p .left) (p .got-is) in
     let R = lines-reader .only (p .place) (p .left) (q .value) (q .place) (q .left) (q .got-is) in
     let M = cells-reader (length (p .value) * length (q .value)) .only (q .place) (q .left) (r .value) (r .place) (r .left) (r .got-is) in
     let cw = linesWords (p .value) in
@@ -122,18 +122,21 @@ puzzle-only ws z j us e =
       fine = record { columns = C .fine; rows = R .fine; masks = M .fine };
     })
 
-pub puzzle-back : (z : Puzzle) (us : List ℕ) → FinePuzzle z → readPuzzle (puzzleWords z ++ us) ≡ got z (length (puzzleWords z)) us
+puzzle-back : (i : ℕ) (z : Puzzle) (us : List ℕ) → FinePuzzle z → readPuzzle i (puzzleWords z ++ us) ≡ got z (i + length (puzzleWords z)) us
 unfolding readPuzzle puzzleWords
-puzzle-back z us F =
+puzzle-back i z us F =
     let cw = linesWords (z .columns) in
     let rw′ = linesWords (z .rows) in
     let mw = cellsWords (z .masks) in
-    let n : 0 + length cw + length rw′ + length mw ≡ length (cw ++ (rw′ ++ mw)) = omega (arith, length-append cw (rw′ ++ mw), length-append rw′ mw) in
+    let n : i + length cw + length rw′ + length mw ≡ i + length (cw ++ (rw′ ++ mw)) = omega (arith, length-append cw (rw′ ++ mw), length-append rw′ mw) in
     rw (
       append-assoc,
       append-assoc,
-      lines-reader .back 0 (z .columns) (rw′ ++ (mw ++ us)) (F .columns),
-      lines-reader .back (0 + length cw) (z .rows) (mw ++ us) (F .rows),
-      cells-reader (width z * height z) .back (0 + length cw + length rw′) (z .masks) us (F .masks),
+      lines-reader .back i (z .columns) (rw′ ++ (mw ++ us)) (F .columns),
+      lines-reader .back (i + length cw) (z .rows) (mw ++ us) (F .rows),
+      cells-reader (width z * height z) .back (i + length cw + length rw′) (z .masks) us (F .masks),
       n,
     )
+
+pub puzzle-reader : Reader readPuzzle puzzleWords FinePuzzle
+puzzle-reader = record { only = puzzle-only; back = puzzle-back }

@@ -4,3 +4,4 @@ pub mod Walk
 pub mod Checks
 pub mod Good
 pub mod Firsts
+pub mod Stops

@@ -27,9 +27,9 @@ readLines = counted (λ n. n) (word 1 offSize 2) readClue
 abbrev pub readCells : ℕ → ℕ → List ℕ → Walk ℕ (List ℕ)
 readCells area = counted (λ n. n) (word 1 (λ n. not (eqb n area)) 7) readMask
 
-unfoldable pub readPuzzle : List ℕ → Walk ℕ Puzzle
-readPuzzle ws =
-    next (readLines 0 ws) (λ columns i us.
-    next (readLines i us) (λ rows j vs.
-    next (readCells (length columns * length rows) j vs) (λ masks k xs.
-    got (record { columns = columns; rows = rows; masks = masks }) k xs)))
+unfoldable pub readPuzzle : ℕ → List ℕ → Walk ℕ Puzzle
+readPuzzle i ws =
+    next (readLines i ws) (λ columns j us.
+    next (readLines j us) (λ rows k vs.
+    next (readCells (length columns * length rows) k vs) (λ masks l xs.
+    got (record { columns = columns; rows = rows; masks = masks }) l xs)))

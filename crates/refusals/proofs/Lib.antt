@@ -4,3 +4,5 @@ pub mod Offending
 pub mod Walking
 pub mod Readers
 pub mod Passing
+pub mod Stopping
+pub mod Never

@@ -7,7 +7,7 @@ use native.Mathlib.Omega.{arith}
 use native.Mathlib.Nat.{add-zero}
 use lib.ListN.{length, drop, getD, drop-of-length-le}
 use Rattle.lists.proofs.Dropping.{drop-one}
-use Rattle.refusals.specs.Verdict.{accepted, refused, firstOff}
+use Rattle.refusals.specs.Verdict.{passed, refused, firstOff}
 use Rattle.refusals.proofs.Answering.{refuse-accepted}
 
 module _ {A : Type 0} where
@@ -29,19 +29,19 @@ module _ {A : Type 0} where
       unfolding firstOff
       searching-next e = record { within = omega arith; same = S .same ∙ rw (drop-one d l i h, e) }
 
-    pub searching-done : length l ≤ i → accepted 0 ≡ firstOff off k p₀ l
+    pub searching-done : length l ≤ i → passed ≡ firstOff off k p₀ l
     unfolding firstOff
     searching-done h = sym (S .same ∙ rw (drop-of-length-le l h))
 
-  -- where none offends, and only there, the list is accepted
+  -- where none offends, and only there, the list passes
   module _ (d : A) (off : A → Bool) (k : ℕ) where
-    pub none-off : (p : ℕ) (l : List A) {n : ℕ} → accepted n ≡ firstOff off k p l → (i : ℕ) → i < length l → off (getD l i d) ≡ false
+    pub none-off : (p : ℕ) (l : List A) → passed ≡ firstOff off k p l → (i : ℕ) → i < length l → off (getD l i d) ≡ false
     unfolding firstOff
     none-off p [] e i h = absurd (omega arith)
     none-off p (a ∷ l) e zero h = refuse-accepted (off a) k p _ e .0
     none-off p (a ∷ l) e (suc i) h = none-off (p + 1) l (refuse-accepted (off a) k p _ e .1) i (omega arith)
 
-    pub off-none : (p : ℕ) (l : List A) → ((i : ℕ) → i < length l → off (getD l i d) ≡ false) → firstOff off k p l ≡ accepted 0
+    pub off-none : (p : ℕ) (l : List A) → ((i : ℕ) → i < length l → off (getD l i d) ≡ false) → firstOff off k p l ≡ passed
     unfolding firstOff
     off-none p [] h = refl
     off-none p (a ∷ l) h = rw (h 0 (omega arith)) (off-none (p + 1) l (λ i g. h (suc i) (omega arith)))

@@ -12,10 +12,10 @@ use Rattle.lists.proofs.Writing.{tail-is}
 use Rattle.refusals.specs.declared.Refusal.{Refusal}
 use Rattle.refusals.specs.declared.Answer.{Answer}
 use Rattle.refusals.specs.declared.Answer.the-variants.{Accepted, Refused}
-use Rattle.refusals.specs.Verdict.{Verdict, accepted, refused}
-use Rattle.refusals.specs.Told.{told}
+use Rattle.refusals.specs.Verdict.{Verdict, accepted, refused, passed}
+use Rattle.refusals.specs.Told.{told, checked}
 use Rattle.refusals.specs.Walk.{Walk, got, outcome, walked, stopIf, stop, word, times, counted}
-use Rattle.refusals.proofs.Answering.{refused-told}
+use Rattle.refusals.proofs.Answering.{refusal-is, refused-told}
 use Rattle.refusals.proofs.Walking.{Got, outcome-got, stopped, next-refused, next-keeps}
 use Rattle.refusals.proofs.Readers.{Reads, Reader}
 
@@ -87,8 +87,8 @@ module _ {B A : Type 0} where
       read : Got (f (at + i) (drop i part)) j
       read = outcome-got (f (at + i) (drop i part)) (sym (ap told r) ∙ e)
 
-      passed : (a : A) (us : List B) → f (at + i) (drop i part) ≡ got a j us → (at + i ≤ j) × (j ≤ at + length part) × (drop (j - at) part ≡ us)
-      passed a us g =
+      went : (a : A) (us : List B) → f (at + i) (drop i part) ≡ got a j us → (at + i ≤ j) × (j ≤ at + length part) × (drop (j - at) part ≡ us)
+      went a us g =
           let r = R .only (at + i) (drop i part) a j us g in
           let n : i + length (W a) ≡ j - at = omega (arith, r .place-is) in (
             omega (arith, r .place-is),
@@ -97,12 +97,12 @@ module _ {B A : Type 0} where
           )
 
       pub passing-low : at + i ≤ j
-      passing-low = passed (read .value) (read .left) (read .got-is) .0
+      passing-low = went (read .value) (read .left) (read .got-is) .0
 
       pub passing-next : l < n → Passing f n at part (l + 1) (j - at)
       unfolding times
       passing-next h =
-          let p = passed (read .value) (read .left) (read .got-is) in
+          let p = went (read .value) (read .left) (read .got-is) in
           let m : n - l ≡ suc (n - (l + 1)) = omega arith in
           let b : at + (j - at) ≡ j = omega (arith, p .0) in
           record {
@@ -130,30 +130,30 @@ module _ {B A : Type 0} (d : B) (size : B → ℕ) (m : ℕ) (off : B → Bool) 
     count-off o = rw (word-is d m off k at part h w, o)
 
     -- they are read from the part that is left, `&part[1..]`
-    pub count-on : off x ≡ false → {n : ℕ} → n ≡ size x → {v : Verdict} → v ≡ outcome (times n f (at + 1) (take (length part - 1) (drop 1 part))) → v ≡ outcome (counted size (word m off k) f at part)
+    pub count-on : off x ≡ false → {n : ℕ} → n ≡ size x → {v : Verdict ℕ} → v ≡ outcome (times n f (at + 1) (take (length part - 1) (drop 1 part))) → v ≡ outcome (counted size (word m off k) f at part)
     unfolding counted
     count-on o e t = t ∙ rw (tail-is part 1, e, word-is d m off k at part h w, o)
 
 -- ---- the whole, and what it leaves
 
 module _ {B A : Type 0} (k : ℕ) (w : Walk B A) {a : Answer} (told-is : told a ≡ outcome w) where
-  pub walked-refused : {why : Refusal} → a ≡ Refused why → told a ≡ walked k w
+  pub walked-refused : {why : Refusal} → a ≡ Refused why → checked a ≡ walked k w
   unfolding walked
-  walked-refused r = refused-told r ∙ rw (stopped w (sym told-is ∙ refused-told r))
+  walked-refused {why} r = ap checked r ∙ refusal-is why ∙ rw (stopped w (sym told-is ∙ refused-told r))
 
-  module _ {W : A → List B} {Fine : A → Type 0} {ws : List B} (only : (b : A) (j : ℕ) (us : List B) → w ≡ got b j us → Reads W Fine 0 ws b j us) {end : ℕ} (r : a ≡ Accepted end) where
+  module _ {W : A → List B} {Fine : A → Type 0} {at : ℕ} {ws : List B} (only : (b : A) (j : ℕ) (us : List B) → w ≡ got b j us → Reads W Fine at ws b j us) {end : ℕ} (r : a ≡ Accepted end) where
     G : Got w end
     G = outcome-got w (sym (ap told r) ∙ told-is)
 
-    left : length ws ≡ end + length (G .left)
+    left : at + length ws ≡ end + length (G .left)
     left =
         let R = only (G .value) end (G .left) (G .got-is) in
         omega (arith, R .place-is, ap length (R .words-are), length-append (W (G .value)) (G .left))
 
-    pub walked-left : end < length ws → refused k end ≡ walked k w
+    pub walked-left : end < at + length ws → refused k end ≡ walked k w
     unfolding walked
     walked-left h = rw (G .got-is, lt-ltb 0 (length (G .left)) (omega (arith, left)))
 
-    pub walked-done : length ws ≤ end → accepted end ≡ walked k w
+    pub walked-done : at + length ws ≤ end → passed ≡ walked k w
     unfolding walked
     walked-done h = rw (G .got-is, le-ltb 0 (length (G .left)) (omega (arith, left)))

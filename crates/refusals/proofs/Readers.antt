@@ -9,7 +9,7 @@ use lib.Dec.{ltb}
 use lib.ListN.{length, length-append}
 use borrow.Author.Tests.{ltb-false}
 use Rattle.lists.specs.Each.{Every}
-use Rattle.refusals.specs.Verdict.{accepted}
+use Rattle.refusals.specs.Verdict.{passed}
 use Rattle.refusals.specs.Walk.{Walk, got, stop, walked, readOr, word, times, counted}
 use Rattle.refusals.proofs.Answering.{refuse-accepted}
 use Rattle.refusals.proofs.Walking.{same-got, stopIf-got, next-got}
@@ -25,15 +25,14 @@ module _ {B A : Type 0} {W : A → List B} {Fine : A → Type 0} where
   reads-as e r = let s = same-got e in rw (← s .0, ← s .1, ← s .2) r
 
   -- accepted words, of which none is left over, are the words of what was read
-  pub walked-is : (a : A) (k : ℕ) {i : ℕ} {ws : List B} (w : Walk B A) → ((b : A) (j : ℕ) (us : List B) → w ≡ got b j us → Reads W Fine i ws b j us) → {n : ℕ} → accepted n ≡ walked k w
-      → (ws ≡ W (readOr a w)) × (n ≡ i + length ws) × Fine (readOr a w)
+  pub walked-is : (a : A) (k : ℕ) {i : ℕ} {ws : List B} (w : Walk B A) → ((b : A) (j : ℕ) (us : List B) → w ≡ got b j us → Reads W Fine i ws b j us) → passed ≡ walked k w
+      → (ws ≡ W (readOr a w)) × Fine (readOr a w)
   unfolding walked readOr
-  walked-is a k (got b j us) only {n} e =
+  walked-is a k (got b j us) only e =
       let r = refuse-accepted (ltb 0 (length us)) _ _ _ e in
       let R = only b j us refl in
       let l = ltb-false 0 (length us) (r .0) in
-      let p : n ≡ j = cc in
-      (R .words-are ∙ whole us (W b) l, omega (arith, R .place-is, ap length (R .words-are), length-append (W b) us), R .fine)
+      (R .words-are ∙ whole us (W b) l, R .fine)
     where
       whole : (us vs : List B) → length us ≤ 0 → vs ++ us ≡ vs
       whole [] vs l = append-nil vs

@@ -1,11 +1,12 @@
 -- The number and the place that each case of the answer stands for.
+use Prim.Native.Nat.{ℕ}
 use Rattle.refusals.specs.declared.Refusal.{Refusal}
 use Rattle.refusals.specs.declared.Refusal.the-variants.{WordMissing, Size, TooManyBlocks, EmptyBlock, BlockColor, LineTooShort, CellCount, EmptyMask, ColumnColor, SolvedColor, LeftOver, OutputTooShort, ModelLength, ModelByte, FalseClause, TwoColors, OffGrid, ColorTooLarge, ProbeColor, TooManyProbeWords, DimacsLimit, ClauseWords, ProgramInput}
 use Rattle.refusals.specs.declared.Answer.{Answer}
 use Rattle.refusals.specs.declared.Answer.the-variants.{Accepted, Refused}
-use Rattle.refusals.specs.Verdict.{Verdict, accepted, refused}
+use Rattle.refusals.specs.Verdict.{Verdict, Checks, accepted, refused, passed}
 
-abbrev pub refusal : Refusal → Verdict
+abbrev pub refusal : {A : Type 0} → Refusal → Verdict A
 refusal (WordMissing p) = refused 1 p
 refusal (Size p) = refused 2 p
 refusal (TooManyBlocks p) = refused 3 p
@@ -30,6 +31,12 @@ refusal (DimacsLimit p) = refused 21 p
 refusal (ClauseWords p) = refused 22 p
 refusal (ProgramInput p) = refused 23 p
 
-abbrev pub told : Answer → Verdict
+-- with the number that was found
+abbrev pub told : Answer → Verdict ℕ
 told (Accepted n) = accepted n
 told (Refused why) = refusal why
+
+-- and without it: what the checks said
+abbrev pub checked : Answer → Checks
+checked (Accepted n) = passed
+checked (Refused why) = refusal why

@@ -5,7 +5,7 @@ use mathlib.Core.List.{List, [], _∷_}
 use Prim.Native.Nat.{ℕ, zero, suc, _+_}
 use lib.Dec.{ltb}
 use lib.ListN.{length}
-use Rattle.refusals.specs.Verdict.{Verdict, accepted, refused, refuse}
+use Rattle.refusals.specs.Verdict.{Verdict, Checks, accepted, refused, passed, refuse}
 
 pub data Walk (B A : Type 0) : Type 0 where
   -- what was read, the place behind it and the words from there on
@@ -15,13 +15,13 @@ pub data Walk (B A : Type 0) : Type 0 where
 
 module _ {B A : Type 0} where
   -- where a walk came to
-  abbrev pub outcome : Walk B A → Verdict
+  abbrev pub outcome : Walk B A → Verdict ℕ
   outcome (got a i ws) = accepted i
   outcome (stop k p) = refused k p
 
   -- and then number k at the first word that is left over
-  unfoldable pub walked : ℕ → Walk B A → Verdict
-  walked k (got a i ws) = refuse (ltb 0 (length ws)) k i (accepted i)
+  unfoldable pub walked : ℕ → Walk B A → Checks
+  walked k (got a i ws) = refuse (ltb 0 (length ws)) k i passed
   walked k (stop n p) = refused n p
 
   -- what was read, or a where it stopped

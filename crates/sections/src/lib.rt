@@ -1,6 +1,6 @@
 // Clauses and sections in clause words, and the writers that the families share.
+use literals::count_word;
 use literals::no;
-use literals::number;
 use literals::yes;
 ghost use mathlib.Core.List.{[], _∷_};
 ghost use Prim.Native.Nat.{_+_, _≤_, _<_};
@@ -41,7 +41,7 @@ pub fn at_least_one(v: usize, n: usize, out: &mut [i32], at: usize) -> usize
     ensures { λ r. ⌜ Wrote (clauseWords (atLeastOne v n)) (now (out .entry)) at (now (out .exit)) r ⌝ }
 {
     let to = put_variables(v, n, out, at + 1);
-    out[at] = number(n);
+    out[at] = count_word(n);
     to
 }
 

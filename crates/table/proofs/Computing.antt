@@ -5,7 +5,7 @@ use Prim.Native.Nat.{ℕ}
 use Rattle.literals.specs.Literals.{positive, negative}
 use Rattle.lists.specs.Each.{each, tab, pairs, product, sum}
 use Rattle.lists.specs.Wrote.{over}
-use Rattle.refusals.specs.Verdict.{Verdict, number, place, firstOff}
+use Rattle.refusals.specs.Verdict.{Checks, number, place, firstOff}
 use Rattle.refusals.specs.Outcome.{Outcome, verdict, kept}
 use Rattle.refusals.proofs.Answering.{outcome-determined}
 use Rattle.refusals.specs.Walk.{walked, readOr, word, times, counted}
@@ -29,17 +29,17 @@ use Rattle.truth.specs.Truth.{literalTrue, clauseTrue, allTrue, value, Satisfie
 use Rattle.pictures.specs.Pictures.{colorOf, shown, blocking}
 use Rattle.pictures.specs.Meaning.{section}
 use Rattle.pictures.specs.Examples.{p8, p10, p11, p12, level}
-use Rattle.models.specs.Models.{trues, modelChecks}
+use Rattle.checker.specs.Models.{trues, modelChecks}
 use Rattle.haafgrim.specs.Entries.{Clauses, Counts, CheckModel}
 use Rattle.table.specs.Table.{filled, AllHold, table}
 use Rattle.table.specs.Fakes.{sevens, p11-level, apart, crossed, barred, tall, strange, SlipsRuledOut}
 
 -- what the contract's own functions give is an outcome
-computes : {A : Type 0} {checks : Verdict} {ws out : List A} → Outcome checks ws out (number (verdict checks ws out)) (place (verdict checks ws out)) (kept (verdict checks ws out) ws out)
+computes : {A : Type 0} {checks : Checks} {ws out : List A} → Outcome checks ws out (number (verdict checks ws out)) (place (verdict checks ws out)) (kept (verdict checks ws out) ws out)
 computes = record { number-is = refl; place-is = refl; out-is = refl }
 
 -- and whatever number and place it allows are these
-answered : {A : Type 0} {checks : Verdict} {ws out : List A} {n p m q : ℕ} {out₁ out₂ : List A} → Outcome checks ws out n p out₁ → Outcome checks ws out m q out₂ → (n ≡ m) × (p ≡ q)
+answered : {A : Type 0} {checks : Checks} {ws out : List A} {n p m q : ℕ} {out₁ out₂ : List A} → Outcome checks ws out n p out₁ → Outcome checks ws out m q out₂ → (n ≡ m) × (p ≡ q)
 answered {ws = ws} {out} a b = let d = outcome-determined ws out a b in (d .0, d .1)
 
 pub record Computed : Type 0 where

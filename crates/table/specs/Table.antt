@@ -6,10 +6,10 @@ use Prim.Native.Nat.{ℕ}
 use lib.IntN.{ℤ}
 use lib.ListN.{length}
 use Rattle.lists.specs.Each.{tab}
-use Rattle.refusals.specs.Verdict.{accepted}
+use Rattle.refusals.specs.Verdict.{passed}
 use Rattle.literals.specs.Literals.{positive, negative}
 use Rattle.lines.specs.Clue.{gap, conflict}
-use Rattle.puzzles.specs.Checks.{colors, puzzle, puzzleChecks}
+use Rattle.puzzles.specs.Checks.{puzzle, puzzleChecks}
 use Rattle.numbering.specs.Variables.{variables}
 use Rattle.counts.specs.Families.{clauses, buffer}
 use Rattle.pictures.specs.Examples.{p8, p10, p11, p11-model, p12, p12-model}
@@ -46,7 +46,7 @@ Holds (ranges n clue ws) = ColorRanges n clue (filled (length ws) 7) 0 (length w
 Holds (meeting e c s d b) = conflict gap c e d s ≡ b
 Holds (buffered w ws) = Clauses w (filled (length ws) (positive 7)) 0 (length ws) ws
 Holds (short w room need) = Clauses w (filled room (positive 7)) 12 need (filled room (positive 7))
-Holds (sized w v c n) = (puzzleChecks w ≡ accepted (colors (puzzle w))) × (variables (puzzle w) ≡ v) × (length (clauses (puzzle w)) ≡ c) × (length (buffer (puzzle w)) ≡ n)
+Holds (sized w v c n) = (passed ≡ puzzleChecks w) × (variables (puzzle w) ≡ v) × (length (clauses (puzzle w)) ≡ c) × (length (buffer (puzzle w)) ≡ n)
 Holds (blocked w model ws) = Blocking w model (filled (length ws) (positive 7)) 0 (length ws) ws
 
 -- every row of a list holds

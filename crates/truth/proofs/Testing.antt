@@ -25,7 +25,7 @@ module _ (β : Assignment) where
       let r = refuse-accepted (not (clauseTrue β c)) 15 p _ e in
       rw (r .0) (tested-on (p + 1) q a b (r .1))
 
-  handed : (t : Bool) (p q : ℕ) (v w : Verdict) → (refused 15 q ≡ v → refused 15 q ≡ w) → refused 15 q ≡ refuse (not t) 15 p v → refused 15 q ≡ refuse (not t) 15 p w
+  handed : (t : Bool) (p q : ℕ) (v w : Verdict ℕ) → (refused 15 q ≡ v → refused 15 q ≡ w) → refused 15 q ≡ refuse (not t) 15 p v → refused 15 q ≡ refuse (not t) 15 p w
   handed true p q v w f e = f e
   handed false p q v w f e = e
 

@@ -10,12 +10,12 @@ use Rattle.truth.specs.declared.Tested.{Tested}
 use Rattle.truth.specs.declared.Tested.the-variants.{Fine, False}
 
 -- 15 at the first false clause, where the first clause has place p; and else the place behind the last
-unfoldable pub tested : Assignment → ℕ → List Clause → Verdict
+unfoldable pub tested : Assignment → ℕ → List Clause → Verdict ℕ
 tested β p [] = accepted p
 tested β p (c ∷ cs) = refuse (not (clauseTrue β c)) 15 p (tested β (p + 1) cs)
 
 -- what the code says of it
-abbrev pub said : Tested → Verdict
+abbrev pub said : Tested → Verdict ℕ
 said (Fine p) = accepted p
 said (False p) = refused 15 p
 

@@ -16,4 +16,4 @@ at-least-one-spec =
     (λ c. search needs)
     (λ c. omega (arith, c .before .before .put-variables .kept .1 .1 .0, c .before .before .before .before .pre .1, least-size (c .before .before .before .before .args .v) (c .before .before .before .before .args .n)))
     (λ c. search needs)
-    (λ c. least-wrote _ _ _ _ (omega (arith, c .before .before .before .before .pre .1, least-size (c .before .before .before .before .args .v) (c .before .before .before .before .args .n))) (word-is (c .number .result) (c .number .ok) ∙ c .number .ensures) (c .before .before .put-variables .ensures)))
+    (λ c. least-wrote _ _ _ _ (omega (arith, c .before .before .before .before .pre .1, least-size (c .before .before .before .before .args .v) (c .before .before .before .before .args .n))) (word-is (c .count-word .result) (c .count-word .ok) ∙ c .count-word .ensures) (c .before .before .put-variables .ensures)))

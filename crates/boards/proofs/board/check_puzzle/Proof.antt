@@ -1,19 +1,17 @@
 use Rattle.boards.proofs.Boards.{sections-read, sections-off, sections-on, width-word, height-word, rows-within}
 use Rattle.puzzles.specs.Puzzle as P
 use Rattle.puzzles.specs.Checks as C
-use Rattle.refusals.proofs.Answering.{refused-not}
-use Rattle.refusals.specs.Told.{told}
 use native.Mathlib.Omega.{arith}
-use mathlib.Core.Path.{_≡_, sym, ap, _∙_}
+use mathlib.Core.Path.{_≡_, _∙_}
 use borrow.Author.Needs.{needs}
 use Rattle.boards.proofs.board.check_puzzle.Statement.{statement}
 use Rattle.boards.proofs.board.check_puzzle.Tie as tie
 
 sectioned : (c : tie.After-known-told) → C.Sectioned (c .before .before .before .before .before .before .args .words .now)
-sectioned c = sections-read _ (sym (ap told (c .before .sections .given .1)) ∙ c .before .before .before .check-sections .ensures) .0
+sectioned c = sections-read _ (c .before .before .before .check-sections .ensures) (c .before .sections .given .1) .0
 
 rows-are : (c : tie.After-known-told) → c .before .sections .given .0 .0 ≡ P.rowsAt (C.puzzle (c .before .before .before .before .before .before .args .words .now))
-rows-are c = sections-read _ (sym (ap told (c .before .sections .given .1)) ∙ c .before .before .before .check-sections .ensures) .1
+rows-are c = sections-read _ (c .before .before .before .check-sections .ensures) (c .before .sections .given .1) .1
 
 pub check-puzzle-spec : {M : Type 1} → statement M
 check-puzzle-spec =
@@ -22,7 +20,7 @@ check-puzzle-spec =
     (λ c κs. search needs)
     (λ c. search needs)
     (λ c. search needs)
-    (λ c. (sections-off _ (c .enum-told .given .1) (c .before .before .check-sections .ensures), λ n e. absurd (refused-not (c .enum-told .given .1) n e)))
+    (λ c. sections-off _ (c .before .before .check-sections .ensures) (c .enum-told .given .1))
     (λ c. omega (arith, rows-within _ (sectioned (c .before)), rows-are (c .before)))
     (λ c κs. search needs)
     (λ c. omega (arith, rows-within _ (sectioned (c .before .before)), rows-are (c .before .before)))
@@ -30,4 +28,4 @@ check-puzzle-spec =
     (λ c κs. search needs)
     (λ c κs. (sectioned (c .before .before .before .before .before), (c .before .before .before .wide .ensures ∙ width-word _ (sectioned (c .before .before .before .before .before)), c .before .wide2 .ensures ∙ height-word _ (sectioned (c .before .before .before .before .before)) (rows-are (c .before .before .before .before .before)), c .before .before .before .before .before .before .before .before .before .before .before .pre)))
     (λ c. search needs)
-    (λ c. (sections-on _ (sectioned (c .before .before .before .before .before .before .before .before)) (c .before .before .check-meaning .ensures .0), c .before .before .check-meaning .ensures .1)))
+    (λ c. sections-on _ (sectioned (c .before .before .before .before .before .before .before .before)) (c .before .before .check-meaning .ensures)))

@@ -1,7 +1,6 @@
 use Rattle.boards.proofs.Laying.{LayingLines, Room, room, line-length-is, laying-first, laying-short, laying-vars, laying-next, laying-done, laying-laid}
 use Rattle.puzzles.proofs.Accepting.{walked-sections, size-some}
 use Rattle.lines.proofs.Checks.{size-within}
-use Rattle.refusals.proofs.Answering.{refused-not}
 use Rattle.puzzles.specs.Checks.{puzzle}
 use Rattle.puzzles.specs.Puzzle as P
 use lib.ListN.{length}
@@ -33,14 +32,14 @@ lay-lines-spec =
     (tie.spec
     Inv-loop
     μ-loop
-    (λ c. omega (arith, c .before .before .pre .1, size-within (P.width (puzzle (c .before .before .args .words .now))) (walked-sections (c .before .before .args .words .now) (c .before .before .pre .0) .fine .columns .0), size-within (P.height (puzzle (c .before .before .args .words .now))) (walked-sections (c .before .before .args .words .now) (c .before .before .pre .0) .fine .rows .0)))
-    (λ c. (omega (arith, c .before .before .pre .1), (refl, laying-first _ _ (size-some _ (walked-sections (c .before .before .args .words .now) (c .before .before .pre .0) .fine .columns .0)))))
+    (λ c. omega (arith, c .before .before .pre .1, size-within (P.width (puzzle (c .before .before .args .words .now))) (walked-sections 0 (c .before .before .args .words .now) (c .before .before .pre .0) .fine .columns .0), size-within (P.height (puzzle (c .before .before .args .words .now))) (walked-sections 0 (c .before .before .args .words .now) (c .before .before .pre .0) .fine .rows .0)))
+    (λ c. (omega (arith, c .before .before .pre .1), (refl, laying-first _ _ (size-some _ (walked-sections 0 (c .before .before .args .words .now) (c .before .before .pre .0) .fine .columns .0)))))
     (λ c κs. search needs)
     (λ c κs. (c .before .before .before .before .before .before .pre .0, (c .before .before .before .loop .inv .1 .1 .stands, (in-line (c .before .before), cells-are (c .before), omega (arith, c .before .before .before .loop .inv .1 .0, c .before .before .before .before .before .before .pre .1)))))
     (λ c. search needs)
     (λ c. search needs)
     (λ c. c .before .before .before .before .lay-line .kept .1 .1 .1 .1 .1 .0 ∙ c .before .before .before .before .before .before .before .before .loop .inv .1 .0)
-    (λ c. (laying-short _ (c .before .before .before .before .before .before .before .before .before .before .before .pre .0) (c .before .before .before .before .before .before .before .before .loop .inv .1 .1) (in-line (c .before .before .before .before .before .before .before)) (cells-are (c .before .before .before .before .before .before)) (c .enum-told .given .1) (c .before .before .before .before .lay-line .ensures .0) _, λ n e. absurd (refused-not (c .enum-told .given .1) n e)))
+    (λ c. laying-short _ (c .before .before .before .before .before .before .before .before .before .before .before .pre .0) (c .before .before .before .before .before .before .before .before .loop .inv .1 .1) (in-line (c .before .before .before .before .before .before .before)) (cells-are (c .before .before .before .before .before .before)) (c .enum-told .given .1) (c .before .before .before .before .lay-line .ensures .0))
     (λ c. omega (arith, room-is (c .before .before .before .before .before .before .before .before), laying-vars _ (c .before .before .before .before .before .before .before .before .before .before .before .before .pre .0) (c .before .before .before .before .before .before .before .before .before .loop .inv .1 .1) (in-line (c .before .before .before .before .before .before .before .before)) _ (c .before .laid .given .1) (c .before .before .before .before .before .lay-line .ensures .0)))
     (λ c. omega (arith, room-is (c .before .before .before .before .before .before .before .before)))
     (λ c. omega (arith, room-is (c .before .before .before .before .before .before .before .before .before)))
@@ -53,4 +52,4 @@ lay-lines-spec =
     (λ c. search needs)
     (λ c. (c .before .before .before .before .before .before .before .before .before .before .before .before .loop .inv .0, (c .before .before .before .before .before .before .before .before .lay-line .kept .1 .1 .1 .1 .1 .0 ∙ c .before .before .before .before .before .before .before .before .before .before .before .before .loop .inv .1 .0, laying-next _ (c .before .before .before .before .before .before .before .before .before .before .before .before .before .before .before .pre .0) (c .before .before .before .before .before .before .before .before .before .before .before .before .loop .inv .1 .1) (in-line (c .before .before .before .before .before .before .before .before .before .before .before)) (omega (arith, c .before .before .before .before .before .before .before .before .before .before .before .before .loop .inv .1 .0, c .before .before .before .before .before .before .before .before .before .before .before .before .before .before .before .pre .1)) (cells-are (c .before .before .before .before .before .before .before .before .before .before)) (c .before .before .before .before .laid .given .1) (c .before .before .before .before .before .before .before .before .lay-line .ensures .0) (c .before .before .before .before .before .before .before .before .lay-line .ensures .1) (c .before .wide .ensures) (c .before .before .before .before .before .before .before .before .before .before .before .before .before .before .before .pre .1 .0) (c .next-begin .ensures))))
     (λ c. c .before .loop .inv .1 .0)
-    (λ c. (laying-done _ (c .before .loop .inv .1 .1) (omega (arith, c .before .loop .inv .0, c .loop-test .left)), λ n e. laying-laid _ (c .before .loop .inv .1 .1) (omega (arith, c .before .loop .inv .0, c .loop-test .left)))))
+    (λ c. (laying-done _ (c .before .loop .inv .1 .1) (omega (arith, c .before .loop .inv .0, c .loop-test .left)), λ p. laying-laid _ (c .before .loop .inv .1 .1) (omega (arith, c .before .loop .inv .0, c .loop-test .left)))))

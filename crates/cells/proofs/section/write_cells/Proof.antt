@@ -35,4 +35,4 @@ write-cells-spec =
     (λ c. search needs)
     (λ c. (c .before .before .before .before .before .loop .inv .0, emit-next (c .before .before .before .before .before .loop .inv .1) (omega arith) (c .before .column-clauses .ensures)))
     (λ c. emit-kept (c .before .loop .inv .1) ∙ simp length-set)
-    (λ c. count-done _ _ (columns-are (c .before .before .before .before .before .before .pre .0) (c .before .before .before .before .before .before .args .rule)) (c .before .before .before .before .before .before .args .out .now) (c .before .before .before .before .before .before .pre .1 .1) _ (word-is (c .before .before .number .result) (c .before .before .number .ok) ∙ c .before .before .number .ensures ∙ ap pos (c .before .before .before .before .before .before .pre .1 .0 .0)) (c .before .loop .inv .1) (omega arith)))
+    (λ c. count-done _ _ (columns-are (c .before .before .before .before .before .before .pre .0) (c .before .before .before .before .before .before .args .rule)) (c .before .before .before .before .before .before .args .out .now) (c .before .before .before .before .before .before .pre .1 .1) _ (word-is (c .before .before .count-word .result) (c .before .before .count-word .ok) ∙ c .before .before .count-word .ensures ∙ ap pos (c .before .before .before .before .before .before .pre .1 .0 .0)) (c .before .loop .inv .1) (omega arith)))

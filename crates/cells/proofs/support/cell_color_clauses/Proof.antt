@@ -26,4 +26,4 @@ cell-color-clauses-spec =
     (λ c. space c .0)
     (λ c. omega (arith, space c))
     (λ c. simp length-set (space c .1))
-    (λ c. support-wrote _ _ _ _ (c .before .before .before .before .before .before .pre .1 .1) _ (c .before .before .put-found .ensures) (word-is (c .before .before .before .before .number .result) (c .before .before .before .before .number .ok) ∙ c .before .before .before .before .number .ensures) (word-is (c .no .result) (c .no .ok) ∙ c .no .ensures)))
+    (λ c. support-wrote _ _ _ _ (c .before .before .before .before .before .before .pre .1 .1) _ (c .before .before .put-found .ensures) (word-is (c .before .before .before .before .count-word .result) (c .before .before .before .before .count-word .ok) ∙ c .before .before .before .before .count-word .ensures) (word-is (c .no .result) (c .no .ok) ∙ c .no .ensures)))

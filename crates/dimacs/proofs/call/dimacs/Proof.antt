@@ -1,5 +1,5 @@
 use mathlib.Core.Path.{sym, ap, _∙_}
-use Rattle.refusals.specs.Told.{told}
+use Rattle.refusals.specs.Told.{checked}
 use Rattle.refusals.proofs.Answering.{answers-refused, answers-checked}
 use Rattle.formulas.proofs.Accepting.{accepted-formed, accepted-clauses}
 use borrow.Author.Needs.{needs}
@@ -14,6 +14,6 @@ dimacs-spec =
     (λ c. search needs)
     (λ c. search needs)
     (λ c. answers-refused _ _ (c .enum-told2 .given .1) (c .before .before .check-words .ensures))
-    (λ c κs. accepted-formed (c .before .before .before .before .before .args .variables) (c .before .before .before .before .before .args .sections) (c .before .before .before .before .before .args .words .now) (sym (ap told (c .before .enum-told .given .1)) ∙ c .before .before .before .check-words .ensures))
+    (λ c κs. accepted-formed (c .before .before .before .before .before .args .variables) (c .before .before .before .before .before .args .sections) (c .before .before .before .before .before .args .words .now) (sym (ap checked (c .before .enum-told .given .1)) ∙ c .before .before .before .check-words .ensures))
     (λ c. c .before .before .write-text .kept .1 .1 .0)
-    (λ c. answers-checked _ _ (sym (ap told (c .before .before .before .before .enum-told .given .1)) ∙ c .before .before .before .before .before .before .check-words .ensures) (rw (accepted-clauses (c .before .before .before .before .before .before .before .before .args .variables) (c .before .before .before .before .before .before .before .before .args .sections) (c .before .before .before .before .before .before .before .before .args .words .now) (sym (ap told (c .before .before .before .before .enum-told .given .1)) ∙ c .before .before .before .before .before .before .check-words .ensures)) at (c .before .before .write-text .ensures))))
+    (λ c. answers-checked _ _ (sym (ap checked (c .before .before .before .before .enum-told .given .1)) ∙ c .before .before .before .before .before .before .check-words .ensures) (rw (accepted-clauses (c .before .before .before .before .before .before .before .before .args .variables) (c .before .before .before .before .before .before .before .before .args .sections) (c .before .before .before .before .before .before .before .before .args .words .now) (sym (ap checked (c .before .before .before .before .enum-told .given .1)) ∙ c .before .before .before .before .before .before .check-words .ensures)) at (c .before .before .write-text .ensures))))

@@ -1,3 +1,4 @@
+use native.Mathlib.Omega.{arith}
 use borrow.Author.Tests.{lt-ltb, le-ltb}
 use Rattle.refusals.proofs.Passing.{walked-refused, walked-left, walked-done}
 use Rattle.formulas.proofs.Readers.{sections-reader}
@@ -18,5 +19,5 @@ check-words-spec =
     (λ c. search needs)
     (λ c. search needs)
     (λ c. rw (le-ltb _ _ (c .before .before .before .before .before .if1 .left), le-ltb _ _ (c .before .before .before .before .if2 .left), le-ltb _ _ (c .before .before .before .if3 .left)) (walked-refused _ _ (c .before .before .read-sections .ensures) (c .enum-told .given .1)))
-    (λ c. rw (le-ltb _ _ (c .before .before .before .before .before .before .before .if1 .left), le-ltb _ _ (c .before .before .before .before .before .before .if2 .left), le-ltb _ _ (c .before .before .before .before .before .if3 .left)) (walked-left _ _ (c .before .before .before .before .read-sections .ensures) (sections-reader _ _ .only 0 _) (c .before .before .read .given .1) (c .if4 .taken)))
-    (λ c. rw (le-ltb _ _ (c .before .before .before .before .before .before .before .if1 .left), le-ltb _ _ (c .before .before .before .before .before .before .if2 .left), le-ltb _ _ (c .before .before .before .before .before .if3 .left)) (walked-done _ _ (c .before .before .before .before .read-sections .ensures) (sections-reader _ _ .only 0 _) (c .before .before .read .given .1) (c .if4 .left))))
+    (λ c. rw (le-ltb _ _ (c .before .before .before .before .before .before .before .if1 .left), le-ltb _ _ (c .before .before .before .before .before .before .if2 .left), le-ltb _ _ (c .before .before .before .before .before .if3 .left)) (walked-left _ _ (c .before .before .before .before .read-sections .ensures) (sections-reader _ _ .only 0 _) (c .before .before .read .given .1) (omega (arith, c .if4 .taken))))
+    (λ c. rw (le-ltb _ _ (c .before .before .before .before .before .before .before .if1 .left), le-ltb _ _ (c .before .before .before .before .before .before .if2 .left), le-ltb _ _ (c .before .before .before .before .before .if3 .left)) (walked-done _ _ (c .before .before .before .before .read-sections .ensures) (sections-reader _ _ .only 0 _) (c .before .before .read .given .1) (omega (arith, c .if4 .left)))))

@@ -1,8 +1,8 @@
 use native.Mathlib.Omega.{arith}
 use lib.ListN.{length-set}
-use Rattle.lines.specs.Strided.{strided}
+use Rattle.runs.specs.Strided.{strided}
 use Rattle.lines.proofs.Coloring.{runs-few}
-use Rattle.lines.proofs.LineCells.{strided-length}
+use Rattle.runs.proofs.LineCells.{strided-length}
 use Rattle.grids.proofs.ClueSections.{clue-room, clue-count, clue-wrote}
 use borrow.Author.Needs.{needs}
 use Rattle.grids.proofs.clues.put_clue.Statement.{statement}

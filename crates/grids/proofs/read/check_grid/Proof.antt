@@ -1,5 +1,5 @@
 use mathlib.Core.Path.{sym, ap, _∙_}
-use Rattle.refusals.specs.Told.{told}
+use Rattle.refusals.specs.Told.{checked}
 use Rattle.grids.proofs.Checking.{size-handed, size-passed}
 use borrow.Author.Needs.{needs}
 use Rattle.grids.proofs.read.check_grid.Statement.{statement}
@@ -14,4 +14,4 @@ check-grid-spec =
     (λ c. search needs)
     (λ c. size-handed _ _ _ (c .enum-told2 .given .1) (c .before .before .check-size .ensures))
     (λ c κs. search needs)
-    (λ c. c .check-bytes .ensures ∙ size-passed _ _ _ (sym (ap told (c .before .enum-told .given .1)) ∙ c .before .before .before .check-size .ensures)))
+    (λ c. c .check-bytes .ensures ∙ size-passed _ _ _ (sym (ap checked (c .before .enum-told .given .1)) ∙ c .before .before .before .check-size .ensures)))

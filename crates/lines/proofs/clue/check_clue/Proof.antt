@@ -1,4 +1,4 @@
-use Rattle.refusals.specs.Told.{told}
+use Rattle.refusals.specs.Told.{checked}
 use mathlib.Core.Path.{sym, _∙_, ap}
 use Rattle.lines.proofs.Checks.{size-refused, odd-refused, many-refused, block-refused, short-refused, clue-accepted}
 use borrow.Author.Needs.{needs}
@@ -18,5 +18,5 @@ check-clue-spec =
     (λ c. search needs)
     (λ c. let b = c .before .before in block-refused _ _ (sym (b .before .before .before .before .off-size .ensures) ∙ b .before .before .before .if1 .left) (b .before .before .if2 .left) (b .before .if3 .left) (c .enum-told2 .given .1) (b .check-blocks .ensures))
     (λ c κs. search needs)
-    (λ c. let b = c .before .before .before .before in short-refused _ _ (sym (b .before .before .before .before .off-size .ensures) ∙ b .before .before .before .if1 .left) (b .before .before .if2 .left) (b .before .if3 .left) (sym (ap told (c .before .before .enum-told .given .1)) ∙ b .check-blocks .ensures) (c .before .min-space .ensures) (c .if4 .taken))
-    (λ c. let b = c .before .before .before .before in clue-accepted _ _ (sym (b .before .before .before .before .off-size .ensures) ∙ b .before .before .before .if1 .left) (b .before .before .if2 .left) (b .before .if3 .left) (sym (ap told (c .before .before .enum-told .given .1)) ∙ b .check-blocks .ensures) (c .before .min-space .ensures) (c .if4 .left)))
+    (λ c. let b = c .before .before .before .before in short-refused _ _ (sym (b .before .before .before .before .off-size .ensures) ∙ b .before .before .before .if1 .left) (b .before .before .if2 .left) (b .before .if3 .left) (sym (ap checked (c .before .before .enum-told .given .1)) ∙ b .check-blocks .ensures) (c .before .min-space .ensures) (c .if4 .taken))
+    (λ c. let b = c .before .before .before .before in clue-accepted _ _ (sym (b .before .before .before .before .off-size .ensures) ∙ b .before .before .before .if1 .left) (b .before .before .if2 .left) (b .before .if3 .left) (sym (ap checked (c .before .before .enum-told .given .1)) ∙ b .check-blocks .ensures) (c .before .min-space .ensures) (c .if4 .left)))

@@ -1,6 +1,6 @@
 use lib.IntN.{pos}
-use Rattle.models.proofs.Negating.{blocking-wrote}
-use Rattle.models.proofs.Counting.{trues-negated, trues-most}
+use Rattle.models.proofs.Negating.{blocking-wrote, trues-negated}
+use Rattle.checker.proofs.Counting.{trues-most}
 use Rattle.literals.proofs.Words.{word-is}
 use Rattle.truth.specs.Truth.{value}
 use mathlib.Core.Path.{_∙_, ap}
@@ -17,4 +17,4 @@ write-blocking-spec =
     (λ c κs. omega (arith, c .before .before .before .before .pre .0, c .before .before .before .before .pre .1 .0, trues-negated (value (c .before .before .before .before .args .model .now)) (c .before .before .before .before .args .v) (c .before .before .before .before .args .n), trues-most (value (c .before .before .before .before .args .model .now)) (c .before .before .before .before .args .v) (c .before .before .before .before .args .n)))
     (λ c. omega (arith, c .before .before .put-negated .kept .1 .1 .1 .0, c .before .before .before .before .before .pre .1))
     (λ c. search needs)
-    (λ c. blocking-wrote _ _ _ _ (omega (arith, c .before .before .before .before .before .pre .1)) (word-is (c .number .result) (c .number .ok) ∙ c .number .ensures ∙ ap pos (c .before .before .before .before .before .pre .1 .0)) (c .before .before .put-negated .ensures)))
+    (λ c. blocking-wrote _ _ _ _ (omega (arith, c .before .before .before .before .before .pre .1)) (word-is (c .count-word .result) (c .count-word .ok) ∙ c .count-word .ensures ∙ ap pos (c .before .before .before .before .before .pre .1 .0)) (c .before .before .put-negated .ensures)))

@@ -1,5 +1,5 @@
 use Rattle.models.proofs.Answered.{given, few-many, true-within, negated-are, count-is, count-most, blocking-many, accepted-size}
-use Rattle.models.proofs.Ordering.{few}
+use Rattle.checker.proofs.Ordering.{few}
 use Rattle.numbering.proofs.Palettes.{palette-count, palette-few}
 use Rattle.refusals.proofs.Answering.{answers-refused, answers-short, answers-wrote}
 use Rattle.truth.specs.Truth.{value}

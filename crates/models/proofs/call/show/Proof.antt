@@ -1,6 +1,6 @@
 use Rattle.truth.specs.Truth.{value}
 use Rattle.models.proofs.Answered.{given, are-bytes, colors-are, cells-many, accepted-size}
-use Rattle.models.proofs.Ordering.{few, cells-within}
+use Rattle.checker.proofs.Ordering.{few, cells-within}
 use Rattle.numbering.proofs.Palettes.{palette-count, palette-few}
 use Rattle.refusals.proofs.Answering.{answers-refused, answers-short, answers-wrote}
 use native.Mathlib.Omega.{arith}

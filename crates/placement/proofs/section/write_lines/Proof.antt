@@ -37,4 +37,4 @@ write-lines-spec =
     (λ c. search needs)
     (λ c. emit-next (c .before .before .before .before .loop .inv) (c .before .before .before .loop-test .taken) (c .before .write-line .ensures))
     (λ c. emit-kept (c .before .loop .inv) ∙ simp length-set)
-    (λ c. count-done _ _ (lines-are _ _ _ _) _ (c .before .before .before .before .before .pre .1 .1) _ (word-is (c .before .before .number .result) (c .before .before .number .ok) ∙ c .before .before .number .ensures ∙ ap pos (c .before .before .before .before .before .pre .1 .0 .0)) (c .before .loop .inv) (c .loop-test .left)))
+    (λ c. count-done _ _ (lines-are _ _ _ _) _ (c .before .before .before .before .before .pre .1 .1) _ (word-is (c .before .before .count-word .result) (c .before .before .count-word .ok) ∙ c .before .before .count-word .ensures ∙ ap pos (c .before .before .before .before .before .pre .1 .0 .0)) (c .before .loop .inv) (c .loop-test .left)))

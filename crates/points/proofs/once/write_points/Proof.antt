@@ -33,4 +33,4 @@ write-points-spec =
     (λ c. search needs)
     (λ c. (c .before .before .before .before .loop .inv .0, emit-next (c .before .before .before .before .loop .inv .1) (omega arith) (c .before .point-once-clauses .ensures)))
     (λ c. emit-kept (c .before .loop .inv .1) ∙ simp length-set)
-    (λ c. λ z S. rw (once-same (c .before .before .before .pre .0 .1) S) at (count-done _ _ (columns-once (c .before .before .before .pre .0 .1)) (c .before .before .before .args .out .now) (c .before .before .before .pre .0 .3) _ (word-is (c .before .before .number .result) (c .before .before .number .ok) ∙ c .before .before .number .ensures ∙ ap pos (c .before .before .before .pre .0 .2)) (c .before .loop .inv .1) (omega arith))))
+    (λ c. λ z S. rw (once-same (c .before .before .before .pre .0 .1) S) at (count-done _ _ (columns-once (c .before .before .before .pre .0 .1)) (c .before .before .before .args .out .now) (c .before .before .before .pre .0 .3) _ (word-is (c .before .before .count-word .result) (c .before .before .count-word .ok) ∙ c .before .before .count-word .ensures ∙ ap pos (c .before .before .before .pre .0 .2)) (c .before .loop .inv .1) (omega arith))))

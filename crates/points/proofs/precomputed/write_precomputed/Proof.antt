@@ -22,4 +22,4 @@ write-precomputed-spec =
     (λ c. search needs)
     (λ c κs. (masks-variables (c .before .before .before .before .before .pre .0), rw (← rows-are (c .before .before .before .before .before .pre .0)) (clauses-room _ (c .before .before .before .before .before .args .out .now) (c .before .before .before .before .before .pre .1 .1) _)))
     (λ c. c .before .precomputed-cells-clauses .kept .1 .1 .1 .0 ∙ simp length-set)
-    (λ c. section-wrote _ _ (c .before .before .before .before .before .before .before .pre .1 .1) _ (word-is (c .before .before .before .before .number .result) (c .before .before .before .before .number .ok) ∙ c .before .before .before .before .number .ensures ∙ ap pos (c .before .before .before .before .before .before .before .pre .1 .0 .0)) (rw (rows-are (c .before .before .before .before .before .before .before .pre .0)) (c .before .precomputed-cells-clauses .ensures))))
+    (λ c. section-wrote _ _ (c .before .before .before .before .before .before .before .pre .1 .1) _ (word-is (c .before .before .before .before .count-word .result) (c .before .before .before .before .count-word .ok) ∙ c .before .before .before .before .count-word .ensures ∙ ap pos (c .before .before .before .before .before .before .before .pre .1 .0 .0)) (rw (rows-are (c .before .before .before .before .before .before .before .pre .0)) (c .before .precomputed-cells-clauses .ensures))))

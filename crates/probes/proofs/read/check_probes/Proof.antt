@@ -1,3 +1,4 @@
+use native.Mathlib.Omega.{arith}
 use borrow.Author.Tests.{lt-ltb, le-ltb}
 use Rattle.refusals.proofs.Passing.{walked-refused, walked-left, walked-done}
 use Rattle.probes.proofs.AcceptedProbes.{probes-only}
@@ -14,5 +15,5 @@ check-probes-spec =
     (λ c. search needs)
     (λ c. search needs)
     (λ c. rw (le-ltb _ _ (c .before .before .before .if1 .left)) (walked-refused _ _ (c .before .before .read-probes .ensures) (c .enum-told .given .1)))
-    (λ c. rw (le-ltb _ _ (c .before .before .before .before .before .if1 .left)) (walked-left _ _ (c .before .before .before .before .read-probes .ensures) (probes-only _ _ _ _) (c .before .before .read .given .1) (c .if2 .taken)))
-    (λ c. rw (le-ltb _ _ (c .before .before .before .before .before .if1 .left)) (walked-done _ _ (c .before .before .before .before .read-probes .ensures) (probes-only _ _ _ _) (c .before .before .read .given .1) (c .if2 .left))))
+    (λ c. rw (le-ltb _ _ (c .before .before .before .before .before .if1 .left)) (walked-left _ _ (c .before .before .before .before .read-probes .ensures) (probes-only _ _ _ _) (c .before .before .read .given .1) (omega (arith, c .if2 .taken))))
+    (λ c. rw (le-ltb _ _ (c .before .before .before .before .before .if1 .left)) (walked-done _ _ (c .before .before .before .before .read-probes .ensures) (probes-only _ _ _ _) (c .before .before .read .given .1) (omega (arith, c .if2 .left)))))

@@ -1,0 +1,4 @@
+pub mod Acceptance
+pub mod Ordering
+pub mod SectionTests
+pub mod Counting

@@ -1,0 +1,6 @@
+pub mod Counting
+pub mod Calling
+pub mod ProbeClauses
+pub mod ProbePlaces
+pub mod ProbeSizes
+pub mod ProbesMeaning

@@ -1,0 +1,2 @@
+pub mod Implications
+pub mod ByWords

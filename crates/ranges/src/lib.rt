@@ -1,0 +1,2 @@
+// Colour ranges: where in a line each colour can be.
+pub mod range;

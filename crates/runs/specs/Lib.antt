@@ -1,0 +1,2 @@
+pub mod Begins
+pub mod Strided

@@ -1,0 +1,2 @@
+// Reading a line: its maximal runs.
+pub mod line;

@@ -1,0 +1,3 @@
+// A grid's columns as rows.
+mod columns;
+pub mod transpose;
