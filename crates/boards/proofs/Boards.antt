@@ -20,10 +20,10 @@ use Rattle.refusals.proofs.Answering.{handed-up, handed-on, accepted-passed, to
 use Rattle.puzzles.specs.Puzzle.{Puzzle, width, height, lines, linesWords, cellsWords, puzzleWords, rowsAt, cellsAt}
 use Rattle.puzzles.specs.Walk.{readPuzzle}
 use Rattle.puzzles.specs.Checks.{colors, columnChecks, solvedChecks, spaces, meaningChecks, puzzle, puzzleChecks, Sectioned}
-use Rattle.boards.specs.Table.{beginAt, Laid}
+use Rattle.boards.specs.declared.table.Parts.{Parts}
+use Rattle.boards.specs.Table.{beginAt, Laid, Found}
 use Rattle.puzzles.proofs.Accepting.{Walked, walked-sections, size-some}
 use Rattle.boards.proofs.Beginning.{begin-next, begin-rows, begin-cells}
-use Rattle.boards.proofs.Finding.{laid-begin, found}
 
 module _ (z : Puzzle) where
   first-word : getD (puzzleWords z) 0 0 ≡ width z
@@ -75,22 +75,18 @@ module _ (ws : List ℕ) (S : Sectioned ws) where
       let z = puzzle ws in
       omega (arith, ap length (W .words-are), length-append (linesWords (z .columns)) (linesWords (z .rows) ++ cellsWords (z .masks)))
 
-  module _ (table : List ℕ) (L : Laid (puzzle ws) table) where
-    pub rows-laid : {w n : ℕ} → w ≡ width (puzzle ws) → n ≡ getD table (68 * w) 0 → n ≡ rowsAt (puzzle ws) + 1
-    rows-laid {w} we e =
-        e ∙ rw we (laid-begin (puzzle ws) table (width (puzzle ws)) (L (width (puzzle ws)) (omega (arith, height-some))) ∙ begin-rows (puzzle ws))
+  -- the rows' count stands before the first row, and the cells begin behind the last line's clue
+  module _ {table : List ℕ} {p : Parts} where
+    pub rows-found : {w : ℕ} → w ≡ width (puzzle ws) → Found ws table w p → p .begin ≡ rowsAt (puzzle ws) + 2
+    rows-found e F = omega (arith, F .begin-is, ap (beginAt (puzzle ws)) e, begin-rows (puzzle ws))
 
-    -- the cells begin behind the last line's clue
-    pub cells-laid : (l : ℕ) {from end : ℕ} → l + 1 ≡ lines (puzzle ws) → from ≡ getD table (68 * l) 0 → end ≡ from + 1 + 2 * getD ws from 0 → end ≡ cellsAt (puzzle ws)
-    cells-laid l {from} {end} le e q =
+    pub cells-found : (l : ℕ) → l + 1 ≡ lines (puzzle ws) → Found ws table l p → p .end ≡ cellsAt (puzzle ws)
+    cells-found l le F =
         let z = puzzle ws in
-        let h : l < lines z = omega arith in
-        let b : from ≡ beginAt z l = e ∙ laid-begin z table l (L l h) in
-        let H = found ws S table L l h e in
-        let n = begin-next z l h in
+        let n = begin-next z l (omega arith) in
         let no : l + 1 ≡ width z → ⊥ = λ u. omega (arith, height-some) in
         let c : _≡_ {A = ℕ} (cond (eqb (l + 1) (width z)) 1 0) 0 = rw (ne-eqb (l + 1) (width z) no) in
-        omega (arith, b, q, n, c, H .count-is, ap (beginAt z) le, begin-cells z)
+        omega (arith, F .begin-is, F .end-is, n, c, ap (beginAt z) le, begin-cells z)
 
 -- ---- the checks, one after another
 

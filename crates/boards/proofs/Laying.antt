@@ -28,6 +28,7 @@ use Rattle.lines.proofs.ClueWords.{starts-size, starts-positions, positions-bou
 use Rattle.puzzles.specs.Puzzle.{Puzzle, width, height, lines, clueAt, lengthAt, cellsAt}
 use Rattle.puzzles.specs.Checks.{puzzle, Sectioned, spaces}
 use Rattle.puzzles.specs.Firsts.{firstAt, positionsAt}
+use Rattle.boards.specs.Layout.{lineSize, tableSize}
 use Rattle.boards.specs.Table.{beginAt, laidWords, LineLaid, Laid, Standing}
 use Rattle.puzzles.proofs.Accepting.{walked-sections, FineLine, fine-lines}
 use Rattle.boards.proofs.Beginning.{Here, clue-here, begin-next, begin-cells}
@@ -94,7 +95,7 @@ module _ (ws : List ℕ) (S : Sectioned ws) (l : ℕ) (h : l < lines (puzzle ws)
       line-checks = rw ce (proper-clue (lengthAt z l) (clueAt z l) (line-fine .sized) (line-fine .few) (line-fine .proper) (line-fine .colors-most))
 
       -- the call that writes the starts into the tail of the table, behind where it begins and its first variable
-      module _ (table : List ℕ) (long : 8704 ≤ length table) {stored : List ℕ} {to : ℕ} (W : Wrote (at ∷ first ∷ []) table (68 * l) stored to)
+      module _ (table : List ℕ) (long : tableSize ≤ length table) {stored : List ℕ} {to : ℕ} (W : Wrote (at ∷ first ∷ []) table (lineSize * l) stored to)
           {n : ℕ} (e : n ≡ getD ws at 0) {a : Answer} {tail : List ℕ}
           (A : Answers (clueChecks cells (take (at + 1 + 2 * n - (at + 1)) (drop (at + 1) ws))) (startsWords cells (take (at + 1 + 2 * n - (at + 1)) (drop (at + 1) ws)))
           (take (length stored - to) (drop to stored)) a tail) where
@@ -117,7 +118,7 @@ module _ (ws : List ℕ) (S : Sectioned ws) (l : ℕ) (h : l < lines (puzzle ws)
           pub lay-fits : minSpace gap (clueAt z l) ≤ cells
           lay-fits = ltb-false _ _ (refuse-accepted (ltb cells (minSpace gap (clueAt z l))) _ _ _ (accepted-checks called r ∙ line-checks) .0)
 
-          pub lay-wrote : Wrote (laidWords z l) table (68 * l) (putMid to (length stored - to) stored tail) (to + used)
+          pub lay-wrote : Wrote (laidWords z l) table (lineSize * l) (putMid to (length stored - to) stored tail) (to + used)
           unfolding laidWords
           lay-wrote = rw (← P .at-is, ← P .first-is, ← ce) (wrote-then (omega (arith, room .low)) W (wrote-tail (accepted-wrote called r)))
 
@@ -174,8 +175,8 @@ module _ (ws : List ℕ) (S : Sectioned ws) {table : List ℕ} {l at first : ℕ
         line-vars (puzzle ws) l (line-fine ws S l h .few) (size-within _ (line-fine ws S l h .sized)),
       )
 
-  pub laying-next : 8704 ≤ length table → {cells : ℕ} → cells ≡ lengthAt (puzzle ws) l → {a : Answer} {v : ℕ} → a ≡ Accepted v → Told (puzzle ws) l cells a → {table′ : List ℕ}
-      → (minSpace gap (clueAt (puzzle ws) l) ≤ cells → (next : ℕ) × Wrote (laidWords (puzzle ws) l) table (68 * l) table′ next)
+  pub laying-next : tableSize ≤ length table → {cells : ℕ} → cells ≡ lengthAt (puzzle ws) l → {a : Answer} {v : ℕ} → a ≡ Accepted v → Told (puzzle ws) l cells a → {table′ : List ℕ}
+      → (minSpace gap (clueAt (puzzle ws) l) ≤ cells → (next : ℕ) × Wrote (laidWords (puzzle ws) l) table (lineSize * l) table′ next)
       → {n w at′ : ℕ} → n ≡ getD ws at 0 → w ≡ width (puzzle ws) → at′ ≡ at + 1 + 2 * n + cond (eqb (l + 1) w) 1 0
       → LayingLines (puzzle ws) table′ (l + 1) at′ (first + v)
   unfolding firstAt
@@ -187,8 +188,8 @@ module _ (ws : List ℕ) (S : Sectioned ws) {table : List ℕ} {l at first : ℕ
       let ve = s .1 in
       let w = wrote fc .1 in
       let m : n ≡ length (clueAt (puzzle ws) l) = ne ∙ R .count-is in
-      let low : 68 * l ≤ length table = omega (arith, R .low) in
-      let fine : (j : ℕ) → j < l → length (laidWords (puzzle ws) j) ≤ 68 = λ j g. omega (arith, line-size (puzzle ws) j, line-fine ws S j (omega arith) .few) in
+      let low : lineSize * l ≤ length table = omega (arith, R .low) in
+      let fine : (j : ℕ) → j < l → length (laidWords (puzzle ws) j) ≤ lineSize = λ j g. omega (arith, line-size (puzzle ws) j, line-fine ws S j (omega arith) .few) in
       let e : l + 1 ≡ suc l = omega arith in
       record {
         within = omega arith;
@@ -200,7 +201,7 @@ module _ (ws : List ℕ) (S : Sectioned ws) {table : List ℕ} {l at first : ℕ
         };
         fit = λ j g. elim (decLt j l) [ yes k ↦ L .fit j k | no k ↦ let q : j ≡ l = omega arith in rw q f ];
         laid = λ j g. elim (decLt j l) [
-          | yes k ↦ wrote-before low w (68 * j) (length (laidWords (puzzle ws) j)) (omega (arith, fine j k)) ∙ L .laid j k
+          | yes k ↦ wrote-before low w (lineSize * j) (length (laidWords (puzzle ws) j)) (omega (arith, fine j k)) ∙ L .laid j k
           | no k ↦ let q : j ≡ l = omega arith in rw q (wrote-there low w)
         ];
       }

@@ -2,7 +2,7 @@
 use crate::colors::check_cells;
 use crate::colors::check_columns;
 use crate::colors::row_colors;
-use crate::table::clue_end;
+use crate::table::find_line;
 use crate::table::lay_lines;
 use crate::table::next_first;
 use lists::wide;
@@ -16,6 +16,7 @@ ghost use Rattle.refusals.specs.Told.{told};
 ghost use Rattle.refusals.specs.Verdict.{accepted, andThen, passed};
 ghost use Rattle.puzzles.specs.Puzzle as P;
 ghost use Rattle.puzzles.specs.Checks as C;
+ghost use Rattle.boards.specs.Layout.{tableSize};
 ghost use Rattle.boards.specs.Table.{Laid};
 ghost use Rattle.boards.specs.Reading.{Stands, Reads};
 
@@ -37,7 +38,7 @@ pub enum Reading {
 // Once the sections are read: 6, 9, 10; and else the colour set.
 fn check_meaning(words: &[u32], width: usize, height: usize, table: &mut [u32]) -> Answer
     requires { ⌜ C.Sectioned (now words) ⌝ }
-    requires { ⌜ (width ≡ P.width (C.puzzle (now words))) × (height ≡ P.height (C.puzzle (now words))) × (8704 ≤ length (now table)) ⌝ }
+    requires { ⌜ (width ≡ P.width (C.puzzle (now words))) × (height ≡ P.height (C.puzzle (now words))) × (tableSize ≤ length (now table)) ⌝ }
     ensures { λ r. ⌜ told r ≡ andThen (C.meaningChecks (C.puzzle (now (words .entry)))) (accepted (C.colors (C.puzzle (now (words .entry))))) ⌝ }
     ensures { λ r. ⌜ (passed ≡ C.meaningChecks (C.puzzle (now (words .entry))) → Laid (C.puzzle (now (words .entry))) (now (table .exit))) ⌝ }
 {
@@ -59,7 +60,7 @@ fn check_meaning(words: &[u32], width: usize, height: usize, table: &mut [u32]) 
 
 // Document 01's order: the walk and 11; 6; 9; 10.
 fn check_puzzle(words: &[u32], table: &mut [u32]) -> Answer
-    requires { ⌜ 8704 ≤ length (now table) ⌝ }
+    requires { ⌜ tableSize ≤ length (now table) ⌝ }
     ensures { λ r. ⌜ told r ≡ andThen (C.puzzleChecks (now (words .entry))) (accepted (C.colors (C.puzzle (now (words .entry))))) ⌝ }
     ensures { λ r. ⌜ (passed ≡ C.puzzleChecks (now (words .entry)) → Laid (C.puzzle (now (words .entry))) (now (table .exit))) ⌝ }
 {
@@ -76,14 +77,16 @@ fn check_puzzle(words: &[u32], table: &mut [u32]) -> Answer
 fn board_of(words: &[u32], colors: u32, table: &[u32]) -> Board
     requires { ⌜ (passed ≡ C.puzzleChecks (now words)) × (colors ≡ C.colors (C.puzzle (now words))) ⌝ }
     requires { ⌜ Laid (C.puzzle (now words)) (now table) ⌝ }
-    requires { ⌜ 8704 ≤ length (now table) ⌝ }
+    requires { ⌜ tableSize ≤ length (now table) ⌝ }
     ensures { λ r. ⌜ Stands r (C.puzzle (now (words .entry))) ⌝ }
 {
     let width = wide(words[0]);
-    let rows = wide(table[68 * width]) - 1;
+    let row = find_line(words, table, width);
+    let rows = row.begin - 2;
     let height = wide(words[rows]);
     let last = width + height - 1;
-    let cells = clue_end(words, wide(table[68 * last]));
+    let line = find_line(words, table, last);
+    let cells = line.end;
     let first = next_first(words, table, last);
     Board {
         width,
@@ -95,9 +98,9 @@ fn board_of(words: &[u32], colors: u32, table: &[u32]) -> Board
     }
 }
 
-// Reads a puzzle's words, and lays its lines into a table of 68 words for each of up to 128 lines.
+// Reads a puzzle's words, and lays its lines into a table.
 pub fn read_puzzle(words: &[u32], table: &mut [u32]) -> Reading
-    requires { ⌜ 8704 ≤ length (now table) ⌝ }
+    requires { ⌜ tableSize ≤ length (now table) ⌝ }
     ensures { λ r. ⌜ Reads (now (words .entry)) (now (table .exit)) r ⌝ }
 {
     let checked = check_puzzle(words, table);

@@ -1,9 +1,8 @@
 // The colour set K, as a mask, and the checks against it.
-use crate::table::clue_end;
+use crate::table::find_line;
 use bits::mask::has;
 use bits::mask::solved;
 use bits::mask::with;
-use lists::wide;
 use refusals::Answer;
 use refusals::Refusal;
 ghost use mathlib.Core.Path.{_≡_};
@@ -14,6 +13,7 @@ ghost use Rattle.lines.specs.Clue.{blocks};
 ghost use Rattle.puzzles.specs.Puzzle as P;
 ghost use Rattle.puzzles.specs.Colors.{withColors, known, offSolved};
 ghost use Rattle.puzzles.specs.Checks as C;
+ghost use Rattle.boards.specs.Layout.{tableSize};
 ghost use Rattle.boards.specs.Table.{Laid};
 
 // The mask, with the colours of a clue's blocks.
@@ -33,14 +33,15 @@ fn with_colors(mask: u32, clue: &[u32]) -> u32
 pub fn row_colors(words: &[u32], width: usize, height: usize, table: &[u32]) -> u32
     requires { ⌜ C.Sectioned (now words) ⌝ }
     requires { ⌜ Laid (C.puzzle (now words)) (now table) ⌝ }
-    requires { ⌜ (width ≡ P.width (C.puzzle (now words))) × (height ≡ P.height (C.puzzle (now words))) × (8704 ≤ length (now table)) ⌝ }
+    requires { ⌜ (width ≡ P.width (C.puzzle (now words))) × (height ≡ P.height (C.puzzle (now words))) × (tableSize ≤ length (now table)) ⌝ }
     ensures { λ r. ⌜ r ≡ C.colors (C.puzzle (now (words .entry))) ⌝ }
 {
     let mut all = 0;
     for l in width..width + height {
-        let from = wide(table[68 * l]);
-        let end = clue_end(words, from);
-        all = with_colors(all, &words[from + 1..end]);
+        let parts = find_line(words, table, l);
+        let begin = parts.begin;
+        let end = parts.end;
+        all = with_colors(all, &words[begin..end]);
     }
     if all == 0 {
         return 2;
@@ -66,13 +67,14 @@ fn all_known(colors: u32, clue: &[u32]) -> bool
 pub fn check_columns(words: &[u32], width: usize, colors: u32, table: &[u32]) -> Answer
     requires { ⌜ C.Sectioned (now words) ⌝ }
     requires { ⌜ Laid (C.puzzle (now words)) (now table) ⌝ }
-    requires { ⌜ (width ≡ P.width (C.puzzle (now words))) × (8704 ≤ length (now table)) ⌝ }
+    requires { ⌜ (width ≡ P.width (C.puzzle (now words))) × (tableSize ≤ length (now table)) ⌝ }
     ensures { λ r. ⌜ checked r ≡ C.columnChecks colors (C.puzzle (now (words .entry)) .columns) ⌝ }
 {
     for l in 0..width {
-        let from = wide(table[68 * l]);
-        let end = clue_end(words, from);
-        if !all_known(colors, &words[from + 1..end]) {
+        let parts = find_line(words, table, l);
+        let begin = parts.begin;
+        let end = parts.end;
+        if !all_known(colors, &words[begin..end]) {
             return Answer::Refused(Refusal::ColumnColor(l));
         }
     }

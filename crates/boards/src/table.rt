@@ -1,4 +1,7 @@
-// The table of a puzzle's lines, laid once per call: 68 words a line.
+// The table of a puzzle's lines, laid once per call.
+use crate::layout::FIRST;
+use crate::layout::LINE_SIZE;
+use crate::layout::POSITIONS;
 use lines::clue::starts;
 use lists::put_pair;
 use lists::wide;
@@ -8,7 +11,7 @@ ghost use mathlib.Core.Path.{_≡_};
 ghost use mathlib.Core.Bool.{cond};
 ghost use Prim.Native.Nat.{ℕ, _+_, _*_, _^_, _≤_, _<_};
 ghost use lib.Dec.{eqb, ltb};
-ghost use lib.ListN.{length, getD};
+ghost use lib.ListN.{length};
 ghost use Rattle.lists.specs.Wrote.{Wrote};
 ghost use Rattle.refusals.specs.Told.{told};
 ghost use Rattle.refusals.specs.Verdict.{accepted, andThen, passed, refuse};
@@ -16,7 +19,8 @@ ghost use Rattle.lines.specs.Clue.{gap, minSpace};
 ghost use Rattle.puzzles.specs.Puzzle as P;
 ghost use Rattle.puzzles.specs.Checks.{puzzle, Sectioned, spaces};
 ghost use Rattle.puzzles.specs.Firsts.{firstAt, positionsAt};
-ghost use Rattle.boards.specs.Table.{laidWords, Laid, Standing};
+ghost use Rattle.boards.specs.Layout.{lineSize, tableSize};
+ghost use Rattle.boards.specs.Table.{laidWords, Laid, Found, Standing};
 
 // The cells of line l.
 fn line_length(l: usize, width: usize, height: usize) -> usize
@@ -44,12 +48,12 @@ fn lay_line(
 ) -> Answer
     requires { ⌜ Sectioned (now words) ⌝ }
     requires { ⌜ Standing (puzzle (now words)) l at first ⌝ }
-    requires { ⌜ (l < P.lines (puzzle (now words))) × (cells ≡ P.lengthAt (puzzle (now words)) l) × (8704 ≤ length (now table)) ⌝ }
+    requires { ⌜ (l < P.lines (puzzle (now words))) × (cells ≡ P.lengthAt (puzzle (now words)) l) × (tableSize ≤ length (now table)) ⌝ }
     ensures { λ r. ⌜ told r ≡ refuse (ltb cells (minSpace gap (P.clueAt (puzzle (now (words .entry))) l))) 6 l (accepted (length (P.clueAt (puzzle (now (words .entry))) l) * positionsAt (puzzle (now (words .entry))) l)) ⌝ }
-    ensures { λ r. ⌜ (minSpace gap (P.clueAt (puzzle (now (words .entry))) l) ≤ cells → (next : ℕ) × Wrote (laidWords (puzzle (now (words .entry))) l) (now (table .entry)) (68 * l) (now (table .exit)) next) ⌝ }
+    ensures { λ r. ⌜ (minSpace gap (P.clueAt (puzzle (now (words .entry))) l) ≤ cells → (next : ℕ) × Wrote (laidWords (puzzle (now (words .entry))) l) (now (table .entry)) (lineSize * l) (now (table .exit)) next) ⌝ }
 {
     let n = wide(words[at]);
-    let to = put_pair(at as u32, first as u32, table, 68 * l);
+    let to = put_pair(at as u32, first as u32, table, LINE_SIZE * l);
     let answer = starts(cells, &words[at + 1..at + 1 + 2 * n], &mut table[to..]);
     let Answer::Accepted(_) = answer else {
         return Answer::Refused(Refusal::LineTooShort(l));
@@ -60,7 +64,7 @@ fn lay_line(
 // Lays the lines, columns and then rows, and answers the place where the cells begin; 6 at the first whose clue needs more than its length.
 pub fn lay_lines(words: &[u32], width: usize, height: usize, table: &mut [u32]) -> Answer
     requires { ⌜ Sectioned (now words) ⌝ }
-    requires { ⌜ (width ≡ P.width (puzzle (now words))) × (height ≡ P.height (puzzle (now words))) × (8704 ≤ length (now table)) ⌝ }
+    requires { ⌜ (width ≡ P.width (puzzle (now words))) × (height ≡ P.height (puzzle (now words))) × (tableSize ≤ length (now table)) ⌝ }
     ensures { λ r. ⌜ told r ≡ andThen (spaces (puzzle (now (words .entry)))) (accepted (P.cellsAt (puzzle (now (words .entry))))) ⌝ }
     ensures { λ r. ⌜ (passed ≡ spaces (puzzle (now (words .entry))) → Laid (puzzle (now (words .entry))) (now (table .exit))) ⌝ }
 {
@@ -79,20 +83,34 @@ pub fn lay_lines(words: &[u32], width: usize, height: usize, table: &mut [u32]) 
     Answer::Accepted(at)
 }
 
-// Where the clue that begins at `from` ends.
-pub fn clue_end(words: &[u32], from: usize) -> usize
-    requires { ⌜ from + 1 + 2 * getD (now words) from 0 ≤ length (now words) ⌝ }
-    ensures { λ r. ⌜ r ≡ from + 1 + 2 * getD (now (words .entry)) from 0 ⌝ }
+// Where a line stands: its own words in the table from `line` on, and those of its clue from `begin` to `end`.
+pub struct Parts {
+    pub line: usize,
+    pub begin: usize,
+    pub end: usize,
+}
+
+// Line l, found through the table.
+pub fn find_line(words: &[u32], table: &[u32], l: usize) -> Parts
+    requires { ⌜ Sectioned (now words) × Laid (puzzle (now words)) (now table) ⌝ }
+    requires { ⌜ (l < P.lines (puzzle (now words))) × (tableSize ≤ length (now table)) ⌝ }
+    ensures { λ r. ⌜ Found (now (words .entry)) (now (table .entry)) l r ⌝ }
 {
-    from + 1 + 2 * wide(words[from])
+    let line = LINE_SIZE * l;
+    let count = wide(table[line]);
+    let begin = count + 1;
+    let end = begin + 2 * wide(words[count]);
+    Parts { line, begin, end }
 }
 
 // The first variable behind those of line l.
 pub fn next_first(words: &[u32], table: &[u32], l: usize) -> usize
     requires { ⌜ Sectioned (now words) × Laid (puzzle (now words)) (now table) ⌝ }
-    requires { ⌜ (l < P.lines (puzzle (now words))) × (8704 ≤ length (now table)) ⌝ }
+    requires { ⌜ (l < P.lines (puzzle (now words))) × (tableSize ≤ length (now table)) ⌝ }
     ensures { λ r. ⌜ r ≡ firstAt (puzzle (now (words .entry))) (l + 1) ⌝ }
 {
-    let blocks = wide(words[wide(table[68 * l])]);
-    wide(table[68 * l + 1]) + blocks * wide(table[68 * l + 2])
+    let parts = find_line(words, table, l);
+    let line = parts.line;
+    let blocks = (parts.end - parts.begin) / 2;
+    wide(table[line + FIRST]) + blocks * wide(table[line + POSITIONS])
 }

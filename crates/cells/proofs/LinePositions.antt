@@ -3,7 +3,7 @@ use mathlib.Core.Path.{_≡_, ap}
 use mathlib.Core.List.{List}
 use Prim.Native.Nat.{ℕ, _+_, _-_, _*_, _/_, _≤_, _<_}
 use native.Mathlib.Omega.{arith}
-use lib.ListN.{length, getD}
+use lib.ListN.{length}
 use borrow.Author.Tests.{eq-eqb, ne-eqb}
 use Rattle.lists.specs.Wrote.{Wrote}
 use Rattle.lists.proofs.Emitting.{Emitting, emit-first, emit-room, emit-next, emit-done}
@@ -13,7 +13,7 @@ use Rattle.lines.specs.Clue.{Run, end}
 use Rattle.lines.specs.Arrangement.{at}
 use Rattle.numbering.specs.Variables.{many}
 use Rattle.numbering.specs.Tables.{lineOf, Sound}
-use Rattle.numbering.proofs.SoundLines.{sound-some, sound-most, sound-within, of-many, of-first, of-positions}
+use Rattle.numbering.proofs.SoundLines.{sound-some, sound-most, sound-within, of-many}
 use Rattle.cells.specs.Cells.{covering}
 use Rattle.cells.specs.Found.{coveringBlock}
 use Rattle.cells.proofs.CoveringPositions.{ofBlock, covering-blocks, covering-most}
@@ -21,8 +21,8 @@ use Rattle.cells.proofs.CoveringPositions.{ofBlock, covering-blocks, co
 -- block b, as it is read
 pub record BlockRead (line clue : List ℕ) (b first p : ℕ) (r : Run) : Type 0 where
   pub below : b < length clue / 2
-  pub first-is : first ≡ getD line 1 0
-  pub positions-is : p ≡ getD line 2 0
+  pub first-is : first ≡ lineOf line clue .first
+  pub positions-is : p ≡ lineOf line clue .positions
   pub run-is : r ≡ at (lineOf line clue .runs) b
 
 module _ {line clue : List ℕ} {b first p : ℕ} {r : Run} (B : BlockRead line clue b first p r) where
@@ -32,12 +32,12 @@ module _ {line clue : List ℕ} {b first p : ℕ} {r : Run} (B : BlockRead line 
   pub block-within : Sound (lineOf line clue) → (first + b * p + p ≤ largest + 1) × (end r + p ≤ 65)
   block-within S =
       let some = sound-some S in
-      let low = rw (← of-first line clue, ← of-positions line clue, ← B .first-is, ← B .positions-is) at (sound-most S b of-line) in
-      let far = rw (← B .run-is) at (sound-within S b of-line (p - 1) (omega (arith, of-positions line clue, B .positions-is))) in
-      (omega (arith, low), omega (arith, far, of-positions line clue, B .positions-is))
+      let low = rw (← B .first-is, ← B .positions-is) at (sound-most S b of-line) in
+      let far = rw (← B .run-is) at (sound-within S b of-line (p - 1) (omega (arith, B .positions-is))) in
+      (omega (arith, low), omega (arith, far, B .positions-is))
 
   pub block-is : (c t : ℕ) → r .color ≡ c → ofBlock (lineOf line clue) c t b ≡ coveringBlock (first + b * p) p r t
-  block-is c t q = rw (← B .run-is, eq-eqb (r .color) c q, B .first-is, B .positions-is, of-first line clue, of-positions line clue)
+  block-is c t q = rw (← B .run-is, eq-eqb (r .color) c q, B .first-is, B .positions-is)
 
 -- the loop
 abbrev pub Searching : List ℕ → List ℕ → ℕ → ℕ → List ℕ → List ℕ → ℕ → ℕ → Type 0

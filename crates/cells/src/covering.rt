@@ -1,10 +1,12 @@
 // The positions of a line's blocks that cover a cell.
-use boards::table::clue_end;
+use boards::layout::LINE_SIZE;
+use boards::table::find_line;
 use lines::meet::Run;
 use lines::meet::behind;
 use lines::meet::covers;
-use lists::wide;
 use numbering::line::run_at;
+use numbering::line::first_of;
+use numbering::line::positions_of;
 ghost use mathlib.Core.Path.{_≡_};
 ghost use Prim.Native.Nat.{_+_, _≤_, _<_};
 ghost use lib.ListN.{length, take};
@@ -14,6 +16,7 @@ ghost use Rattle.lines.specs.Clue.{end};
 ghost use Rattle.lines.specs.Runs.{run};
 ghost use Rattle.puzzles.specs.Puzzle as P;
 ghost use Rattle.puzzles.specs.Checks.{puzzle};
+ghost use Rattle.boards.specs.Layout.{lineSize};
 ghost use Rattle.numbering.specs.Variables.{lineAt};
 ghost use Rattle.numbering.specs.Tables.{lineOf, Sound, Ready};
 ghost use Rattle.cells.specs.Cells.{covering};
@@ -48,11 +51,11 @@ fn covering_positions(
     found: &mut [usize],
 ) -> usize
     requires { ⌜ Sound (lineOf (now line) (now clue)) ⌝ }
-    requires { ⌜ (68 ≤ length (now line)) × (64 ≤ length (now found)) ⌝ }
+    requires { ⌜ (lineSize ≤ length (now line)) × (64 ≤ length (now found)) ⌝ }
     ensures { λ r. ⌜ Wrote (covering (lineOf (now (line .entry)) (now (clue .entry))) color t) (now (found .entry)) 0 (now (found .exit)) r ⌝ }
 {
-    let first = wide(line[1]);
-    let p = wide(line[2]);
+    let first = first_of(line);
+    let p = positions_of(line);
     let mut to = 0;
     for b in 0..clue.len() / 2 {
         let block = run_at(line, clue, b);
@@ -77,12 +80,13 @@ pub fn find_covering(
     requires { ⌜ (l < P.lines (puzzle (now words))) × (64 ≤ length (now found)) ⌝ }
     ensures { λ r. ⌜ (r ≤ length (now (found .exit))) × (take r (now (found .exit)) ≡ covering (lineAt (puzzle (now (words .entry))) l) color t) ⌝ }
 {
-    let place = 68 * l;
-    let begin = wide(table[place]);
-    let end = clue_end(words, begin);
+    let parts = find_line(words, table, l);
+    let line = parts.line;
+    let begin = parts.begin;
+    let end = parts.end;
     covering_positions(
-        &table[place..place + 68],
-        &words[begin + 1..end],
+        &table[line..line + LINE_SIZE],
+        &words[begin..end],
         color,
         t,
         found,

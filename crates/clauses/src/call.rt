@@ -3,6 +3,7 @@ use crate::buffer::write_sections;
 use boards::board::Board;
 use boards::board::Reading;
 use boards::board::read_puzzle;
+use boards::layout::TABLE_SIZE;
 use counts::total::count_all;
 use refusals::Answer;
 use refusals::Refusal;
@@ -10,12 +11,13 @@ ghost use Prim.Native.Nat.{_≤_};
 ghost use lib.ListN.{length};
 ghost use Rattle.refusals.specs.Outcome.{Answers};
 ghost use Rattle.puzzles.specs.Checks.{puzzle, puzzleChecks};
+ghost use Rattle.boards.specs.Layout.{tableSize};
 ghost use Rattle.boards.specs.Reading.{Held};
 ghost use Rattle.counts.specs.Families.{buffer};
 
 // Once the puzzle is read: 12, or the ten sections.
 fn write_clauses(words: &[u32], table: &[u32], board: Board, out: &mut [i32]) -> Answer
-    requires { ⌜ Held (now words) (now table) board × (8704 ≤ length (now table)) ⌝ }
+    requires { ⌜ Held (now words) (now table) board × (tableSize ≤ length (now table)) ⌝ }
     ensures { λ r. ⌜ Answers (puzzleChecks (now (words .entry))) (buffer (puzzle (now (words .entry)))) (now (out .entry)) r (now (out .exit)) ⌝ }
 {
     let counts = count_all(words, table, board);
@@ -28,7 +30,7 @@ fn write_clauses(words: &[u32], table: &[u32], board: Board, out: &mut [i32]) ->
 pub fn clauses(words: &[u32], out: &mut [i32]) -> Answer
     ensures { λ r. ⌜ Answers (puzzleChecks (now (words .entry))) (buffer (puzzle (now (words .entry)))) (now (out .entry)) r (now (out .exit)) ⌝ }
 {
-    let mut table = [0u32; 8704];
+    let mut table = [0u32; TABLE_SIZE];
     let reading = read_puzzle(words, &mut table);
     match reading {
         Reading::Refused(why) => Answer::Refused(why),

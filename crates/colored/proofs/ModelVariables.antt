@@ -14,7 +14,6 @@ use Rattle.boards.specs.declared.board.Board.{Board}
 use Rattle.numbering.specs.Variables.{lineAt, hues, cellFirst, variables}
 use Rattle.numbering.specs.Names.{position}
 use Rattle.numbering.specs.Tables.{lineOf}
-use Rattle.numbering.proofs.SoundLines.{of-first, of-positions}
 use Rattle.numbering.proofs.Bounds.{first-some}
 use Rattle.numbering.proofs.OneToOne.{numbered-within}
 use Rattle.cells.specs.Cells.{covering}
@@ -48,7 +47,7 @@ module _ (model : List ℕ) (z : Puzzle) (all : length model ≡ variables z) wh
 -- the positions of a block, as its numbers are read
 pub block-variables : (model : List ℕ) {line clue : List ℕ} {b first p : ℕ} {r : Run} → BlockRead line clue b first p r → LineOf model (lineOf line clue) → (i : ℕ) → i < p → Of model (first + b * p + i)
 block-variables model {line} {clue} {b} B W i m =
-    rw (B .first-is, B .positions-is, of-first line clue, of-positions line clue) (W b i (of-line B) (omega (arith, B .positions-is, of-positions line clue)))
+    rw (B .first-is, B .positions-is) (W b i (of-line B) (omega (arith, B .positions-is)))
 
 pub masks-within : (model : List ℕ) {ws : List ℕ} {board : Board} {palette : List ℕ} → Masked ws board palette → length model ≡ variables (puzzle ws)
     → (0 < board .first) × (board .first + length (take (length ws - (board .cells + 1)) (drop (board .cells + 1) ws)) * length palette ≤ length model + 1)

@@ -1,11 +1,13 @@
 // Family 8 of a cell: where a position of a colour covers it, the cell has the colour. Each position is tested where it is found.
 use crate::side::pick;
-use boards::table::clue_end;
+use boards::layout::LINE_SIZE;
+use boards::table::find_line;
 use lines::meet::Run;
 use lines::meet::behind;
 use lines::meet::covers;
-use lists::wide;
 use numbering::line::run_at;
+use numbering::line::first_of;
+use numbering::line::positions_of;
 use truth::Tested;
 use truth::on;
 ghost use mathlib.Core.Path.{_≡_};
@@ -17,6 +19,7 @@ ghost use Rattle.lines.specs.Clue.{end};
 ghost use Rattle.lines.specs.Runs.{run};
 ghost use Rattle.puzzles.specs.Puzzle as P;
 ghost use Rattle.puzzles.specs.Checks.{puzzle};
+ghost use Rattle.boards.specs.Layout.{lineSize};
 ghost use Rattle.numbering.specs.Variables.{lineAt, variables};
 ghost use Rattle.numbering.specs.Tables.{lineOf, Sound, Ready};
 ghost use Rattle.truth.specs.Truth.{value};
@@ -83,13 +86,13 @@ fn test_blocks(
     model: &[u8],
     at: usize,
 ) -> Tested
-    requires { ⌜ Sound (lineOf (now line) (now clue)) × (68 ≤ length (now line)) ⌝ }
+    requires { ⌜ Sound (lineOf (now line) (now clue)) × (lineSize ≤ length (now line)) ⌝ }
     requires { ⌜ LineOf (now model) (lineOf (now line) (now clue)) × Of (now model) v ⌝ }
     requires { ⌜ Countable at (ruled Space v (covering (lineOf (now line) (now clue)) color t)) ⌝ }
     ensures { λ r. ⌜ said r ≡ tested (value (now (model .entry))) at (ruled Space v (covering (lineOf (now (line .entry)) (now (clue .entry))) color t)) ⌝ }
 {
-    let first = wide(line[1]);
-    let p = wide(line[2]);
+    let first = first_of(line);
+    let p = positions_of(line);
     let mut to = at;
     for b in 0..clue.len() / 2 {
         let block = run_at(line, clue, b);
@@ -121,12 +124,13 @@ fn test_line(
     requires { ⌜ Countable at (ruled Space v (covering (lineAt (puzzle (now words)) l) color t)) ⌝ }
     ensures { λ r. ⌜ said r ≡ tested (value (now (model .entry))) at (ruled Space v (covering (lineAt (puzzle (now (words .entry))) l) color t)) ⌝ }
 {
-    let place = 68 * l;
-    let begin = wide(table[place]);
-    let end = clue_end(words, begin);
+    let parts = find_line(words, table, l);
+    let line = parts.line;
+    let begin = parts.begin;
+    let end = parts.end;
     test_blocks(
-        &table[place..place + 68],
-        &words[begin + 1..end],
+        &table[line..line + LINE_SIZE],
+        &words[begin..end],
         color,
         t,
         v,

@@ -12,7 +12,7 @@ use Rattle.puzzles.specs.Puzzle.{lines}
 use Rattle.puzzles.specs.Checks.{puzzle}
 use Rattle.numbering.specs.Variables.{Line, lineAt, many}
 use Rattle.numbering.specs.Tables.{Ready, Sound, lineOf}
-use Rattle.numbering.proofs.SoundLines.{of-many, of-positions, sound-shared, sound-some, sound-sizes, sound-meets}
+use Rattle.numbering.proofs.SoundLines.{of-many, sound-shared, sound-some, sound-sizes, sound-meets}
 use Rattle.numbering.proofs.Bounds.{line-sound}
 use Rattle.counts.specs.Formulas.{onceIn, overlapPair, overlapAt, overlapIn, cellsIn, spaceIn, measured, unitsBy}
 use Rattle.counts.specs.declared.measure.Measure.{Measure}
@@ -34,28 +34,25 @@ module _ {L : Line} (S : Sound L) where
       summing-first (many L) 133120 _ (λ a h. omega (arith, sum-most (many L - suc a) 2080 _ (later-first a .small), mul-le-mul-right {m = many L - suc a} {n = 64} 2080 (omega (arith, sound-shared S, sound-some S))))
 
 -- a turn of the loop over later blocks
-pub pair-is : (line clue : List ℕ) (a k : ℕ) {p d v : ℕ} → p ≡ getD line 2 0 → d ≡ distance gap (at (lineOf line clue .runs) a) (at (lineOf line clue .runs) (a + 1 + k)) → v ≡ (p - d) * (p - d + 1) / 2
+pub pair-is : (line clue : List ℕ) (a k : ℕ) {p d v : ℕ} → p ≡ lineOf line clue .positions → d ≡ distance gap (at (lineOf line clue .runs) a) (at (lineOf line clue .runs) (a + 1 + k)) → v ≡ (p - d) * (p - d + 1) / 2
     → v ≡ overlapPair (lineOf line clue) a (suc a + k)
 unfolding overlapPair
 pair-is line clue a k e f g =
     let q : a + 1 + k ≡ suc a + k = omega arith in
-    g ∙ rw (f, e ∙ of-positions line clue, q)
+    g ∙ rw (f, e, q)
 
 -- what is counted of a line, from its words
-module _ (line clue : List ℕ) {n p : ℕ} (ne : n ≡ length clue / 2) (pe : p ≡ getD line 2 0) where
+module _ (line clue : List ℕ) {n p : ℕ} (ne : n ≡ length clue / 2) (pe : p ≡ lineOf line clue .positions) where
   many-blocks : n ≡ many (lineOf line clue)
   many-blocks = ne ∙ sym (of-many line clue)
-
-  positions-are : p ≡ lineOf line clue .positions
-  positions-are = pe ∙ of-positions line clue
 
   -- the numbers stay small
   pub line-small : Sound (lineOf line clue) → (0 < p) × (p ≤ 65) × (p * (p - 1) / 2 ≤ 2080) × (n * (p * (p - 1) / 2) ≤ 133120)
   line-small S =
-      let short : p ≤ 65 = omega (arith, positions-are, sound-shared S) in
+      let short : p ≤ 65 = omega (arith, pe, sound-shared S) in
       let few : n ≤ 64 = omega (arith, many-blocks, sound-shared S, sound-some S) in
       let pairs = pairs-most p 65 short in
-      (omega (arith, positions-are, sound-some S), short, omega (arith, pairs), omega (arith, pairs, mul-le-mul-right (p * (p - 1) / 2) few))
+      (omega (arith, pe, sound-some S), short, omega (arith, pairs), omega (arith, pairs, mul-le-mul-right (p * (p - 1) / 2) few))
 
   pub blocks-are : {measure : Measure} → measure ≡ Blocks → n ≡ measured measure (lineOf line clue)
   unfolding measured
@@ -63,7 +60,7 @@ module _ (line clue : List ℕ) {n p : ℕ} (ne : n ≡ length clue / 2) (pe : p
 
   pub once-are : {measure : Measure} → measure ≡ Once → n * (p * (p - 1) / 2) ≡ measured measure (lineOf line clue)
   unfolding measured onceIn
-  once-are e = rw (e, many-blocks, positions-are) (sym (sum-constant (many (lineOf line clue)) _))
+  once-are e = rw (e, many-blocks, pe) (sym (sum-constant (many (lineOf line clue)) _))
 
   pub overlap-are : {measure : Measure} → measure ≡ Overlap → {v : ℕ} → v ≡ overlapIn (lineOf line clue) → v ≡ measured measure (lineOf line clue)
   unfolding measured
@@ -75,7 +72,7 @@ module _ (line clue : List ℕ) {n p : ℕ} (ne : n ≡ length clue / 2) (pe : p
 
     pub space-are : {measure : Measure} → measure ≡ Space → p * s ≡ measured measure (lineOf line clue)
     unfolding measured spaceIn
-    space-are e = rw (e, se, positions-are) (sym (sum-times (many (lineOf line clue)) (lineOf line clue .positions) (λ b. at (lineOf line clue .runs) b .size)))
+    space-are e = rw (e, se, pe) (sym (sum-times (many (lineOf line clue)) (lineOf line clue .positions) (λ b. at (lineOf line clue .runs) b .size)))
 
 pub ready-few : (ws table : List ℕ) → Ready ws table → lines (puzzle ws) ≤ 128
 ready-few ws table R = omega (arith, R .good .width-most, R .good .height-most)

@@ -4,6 +4,7 @@ use crate::total::count_all;
 use boards::board::Board;
 use boards::board::Reading;
 use boards::board::read_puzzle;
+use boards::layout::TABLE_SIZE;
 use refusals::Answer;
 use refusals::Refusal;
 ghost use Prim.Native.Nat.{_≤_};
@@ -11,6 +12,7 @@ ghost use lib.ListN.{length};
 ghost use Rattle.lists.specs.Wrote.{Wrote};
 ghost use Rattle.refusals.specs.Outcome.{Answers};
 ghost use Rattle.puzzles.specs.Checks.{puzzle, puzzleChecks};
+ghost use Rattle.boards.specs.Layout.{tableSize};
 ghost use Rattle.boards.specs.Reading.{Held};
 ghost use Rattle.counts.specs.Families.{countsOf};
 ghost use Rattle.counts.specs.Counted.{numbers};
@@ -37,7 +39,7 @@ fn put_counts(c: Counts, out: &mut [u64]) -> usize
 
 // Once the puzzle is read: 12, or the numbers.
 fn write_counts(words: &[u32], table: &[u32], board: Board, out: &mut [u64]) -> Answer
-    requires { ⌜ Held (now words) (now table) board × (8704 ≤ length (now table)) ⌝ }
+    requires { ⌜ Held (now words) (now table) board × (tableSize ≤ length (now table)) ⌝ }
     ensures { λ r. ⌜ Answers (puzzleChecks (now (words .entry))) (countsOf (puzzle (now (words .entry)))) (now (out .entry)) r (now (out .exit)) ⌝ }
 {
     if out.len() < 13 {
@@ -49,7 +51,7 @@ fn write_counts(words: &[u32], table: &[u32], board: Board, out: &mut [u64]) -> 
 pub fn counts(words: &[u32], out: &mut [u64]) -> Answer
     ensures { λ r. ⌜ Answers (puzzleChecks (now (words .entry))) (countsOf (puzzle (now (words .entry)))) (now (out .entry)) r (now (out .exit)) ⌝ }
 {
-    let mut table = [0u32; 8704];
+    let mut table = [0u32; TABLE_SIZE];
     let reading = read_puzzle(words, &mut table);
     match reading {
         Reading::Refused(why) => Answer::Refused(why),

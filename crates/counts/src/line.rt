@@ -1,13 +1,16 @@
 // What is counted of the lines.
 use crate::measure::Measure;
-use boards::table::clue_end;
+use boards::layout::LINE_SIZE;
+use boards::table::find_line;
 use lists::wide;
 use numbering::line::distance_of;
+use numbering::line::positions_of;
 ghost use mathlib.Core.Path.{_≡_};
 ghost use Prim.Native.Nat.{_+_, _-_, _*_, _/_, _≤_, _<_};
 ghost use lib.ListN.{length};
 ghost use Rattle.puzzles.specs.Puzzle.{lines};
 ghost use Rattle.puzzles.specs.Checks.{puzzle};
+ghost use Rattle.boards.specs.Layout.{lineSize};
 ghost use Rattle.numbering.specs.Variables.{lineAt, many};
 ghost use Rattle.numbering.specs.Tables.{Ready, Sound, lineOf};
 ghost use Rattle.counts.specs.Formulas.{cellsIn, overlapAt, overlapIn, measured, overLines};
@@ -26,11 +29,11 @@ fn pair_count(p: usize, d: usize) -> usize
 
 // Those of block a with each later one.
 fn later_count(a: usize, line: &[u32], clue: &[u32]) -> usize
-    requires { ⌜ Sound (lineOf (now line) (now clue)) × (68 ≤ length (now line)) ⌝ }
+    requires { ⌜ Sound (lineOf (now line) (now clue)) × (lineSize ≤ length (now line)) ⌝ }
     requires { ⌜ a < many (lineOf (now line) (now clue)) ⌝ }
     ensures { λ r. ⌜ r ≡ overlapAt (lineOf (now (line .entry)) (now (clue .entry))) a ⌝ }
 {
-    let p = wide(line[2]);
+    let p = positions_of(line);
     let mut total = 0;
     for k in 0..clue.len() / 2 - (a + 1) {
         total += pair_count(p, distance_of(line, clue, a, a + 1 + k));
@@ -39,7 +42,7 @@ fn later_count(a: usize, line: &[u32], clue: &[u32]) -> usize
 }
 
 fn overlap_count(line: &[u32], clue: &[u32]) -> usize
-    requires { ⌜ Sound (lineOf (now line) (now clue)) × (68 ≤ length (now line)) ⌝ }
+    requires { ⌜ Sound (lineOf (now line) (now clue)) × (lineSize ≤ length (now line)) ⌝ }
     ensures { λ r. ⌜ r ≡ overlapIn (lineOf (now (line .entry)) (now (clue .entry))) ⌝ }
 {
     let mut total = 0;
@@ -62,11 +65,11 @@ fn size_count(line: &[u32], clue: &[u32]) -> usize
 }
 
 fn line_count(measure: Measure, line: &[u32], clue: &[u32]) -> usize
-    requires { ⌜ Sound (lineOf (now line) (now clue)) × (68 ≤ length (now line)) ⌝ }
+    requires { ⌜ Sound (lineOf (now line) (now clue)) × (lineSize ≤ length (now line)) ⌝ }
     ensures { λ r. ⌜ r ≡ measured measure (lineOf (now (line .entry)) (now (clue .entry))) ⌝ }
 {
     let n = clue.len() / 2;
-    let p = wide(line[2]);
+    let p = positions_of(line);
     match measure {
         Measure::Blocks => n,
         Measure::Once => n * (p * (p - 1) / 2),
@@ -80,9 +83,11 @@ fn count_line(measure: Measure, words: &[u32], table: &[u32], l: usize) -> usize
     requires { ⌜ Ready (now words) (now table) × (l < lines (puzzle (now words))) ⌝ }
     ensures { λ r. ⌜ r ≡ measured measure (lineAt (puzzle (now (words .entry))) l) ⌝ }
 {
-    let begin = wide(table[68 * l]);
-    let end = clue_end(words, begin);
-    line_count(measure, &table[68 * l..68 * l + 68], &words[begin + 1..end])
+    let parts = find_line(words, table, l);
+    let line = parts.line;
+    let begin = parts.begin;
+    let end = parts.end;
+    line_count(measure, &table[line..line + LINE_SIZE], &words[begin..end])
 }
 
 // Of n lines from line l on.

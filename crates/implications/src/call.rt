@@ -4,6 +4,7 @@ use crate::write::write_probes;
 use boards::board::Board;
 use boards::board::Reading;
 use boards::board::read_puzzle;
+use boards::layout::TABLE_SIZE;
 use numbering::palette;
 use probes::read::check_probes;
 use refusals::Answer;
@@ -53,7 +54,7 @@ fn answer_probes(board: Board, probe: &[u32], out: &mut [i32]) -> Answer
 pub fn probes(words: &[u32], probe: &[u32], out: &mut [i32]) -> Answer
     ensures { λ r. ⌜ Answers (andThen (puzzleChecks (now (words .entry))) (probeChecks (puzzle (now (words .entry))) (now (probe .entry)))) (sectionWords (implications (puzzle (now (words .entry))) (P.probes (puzzle (now (words .entry))) (now (probe .entry))))) (now (out .entry)) r (now (out .exit)) ⌝ }
 {
-    let mut table = [0u32; 8704];
+    let mut table = [0u32; TABLE_SIZE];
     let reading = read_puzzle(words, &mut table);
     match reading {
         Reading::Refused(why) => Answer::Refused(why),

@@ -14,6 +14,7 @@ use Rattle.literals.specs.Literals.{largest}
 use Rattle.sections.specs.Sections.{clauseWords}
 use Rattle.truth.specs.Truth.{Assignment}
 use Rattle.puzzles.specs.Checks.{puzzle}
+use Rattle.boards.specs.Layout.{tableSize}
 use Rattle.boards.specs.Reading.{Held}
 use Rattle.boards.specs.declared.board.Board.{Board}
 use Rattle.numbering.specs.Variables as N
@@ -31,7 +32,7 @@ use Rattle.checker.proofs.Ordering.{area-is, few, cells-within}
 use Rattle.checker.proofs.Acceptance.{accepted-model}
 
 -- `&colors[..k]`, where the palette was written
-pub given : {ws table : List ℕ} {board : Board} → Held ws table board → 8704 ≤ length table → {out out′ : List ℕ} {k : ℕ} → Wrote (N.palette (board .colors)) out 0 out′ k
+pub given : {ws table : List ℕ} {board : Board} → Held ws table board → tableSize ≤ length table → {out out′ : List ℕ} {k : ℕ} → Wrote (N.palette (board .colors)) out 0 out′ k
     → Given ws table board (take k out′)
 given H l w = record { ready = held-ready _ _ _ H l; stands = H .stands; palette-is = palette-taken _ w ∙ ap N.palette (H .stands .colors-is) }
 

@@ -4,6 +4,7 @@ use crate::picture::write_colors;
 use boards::board::Board;
 use boards::board::Reading;
 use boards::board::read_puzzle;
+use boards::layout::TABLE_SIZE;
 use checker::check::check;
 use checker::count::count_true;
 use numbering::palette;
@@ -16,13 +17,14 @@ ghost use Rattle.refusals.specs.Outcome.{Answers};
 ghost use Rattle.sections.specs.Sections.{clauseWords};
 ghost use Rattle.truth.specs.Truth.{value};
 ghost use Rattle.puzzles.specs.Checks.{puzzle, puzzleChecks};
+ghost use Rattle.boards.specs.Layout.{tableSize};
 ghost use Rattle.boards.specs.Reading.{Held};
 ghost use Rattle.pictures.specs.Pictures as S;
 ghost use Rattle.checker.specs.Models.{modelChecks};
 
 // Once the puzzle is read: the model's refusals, 12, or the picture.
 fn show(words: &[u32], table: &[u32], board: Board, model: &[u8], out: &mut [u8]) -> Answer
-    requires { ⌜ Held (now words) (now table) board × (8704 ≤ length (now table)) ⌝ }
+    requires { ⌜ Held (now words) (now table) board × (tableSize ≤ length (now table)) ⌝ }
     ensures { λ r. ⌜ Answers (modelChecks (puzzle (now (words .entry))) (now (model .entry))) (S.shown (puzzle (now (words .entry))) (value (now (model .entry)))) (now (out .entry)) r (now (out .exit)) ⌝ }
 {
     let mut colors = [0u32; 31];
@@ -40,7 +42,7 @@ fn show(words: &[u32], table: &[u32], board: Board, model: &[u8], out: &mut [u8]
 
 // Or the clause.
 fn block(words: &[u32], table: &[u32], board: Board, model: &[u8], out: &mut [i32]) -> Answer
-    requires { ⌜ Held (now words) (now table) board × (8704 ≤ length (now table)) ⌝ }
+    requires { ⌜ Held (now words) (now table) board × (tableSize ≤ length (now table)) ⌝ }
     ensures { λ r. ⌜ Answers (modelChecks (puzzle (now (words .entry))) (now (model .entry))) (clauseWords (S.blocking (puzzle (now (words .entry))) (value (now (model .entry))))) (now (out .entry)) r (now (out .exit)) ⌝ }
 {
     let mut colors = [0u32; 31];
@@ -61,7 +63,7 @@ fn block(words: &[u32], table: &[u32], board: Board, model: &[u8], out: &mut [i3
 pub fn check_model(words: &[u32], model: &[u8], out: &mut [u8]) -> Answer
     ensures { λ r. ⌜ Answers (andThen (puzzleChecks (now (words .entry))) (modelChecks (puzzle (now (words .entry))) (now (model .entry)))) (S.shown (puzzle (now (words .entry))) (value (now (model .entry)))) (now (out .entry)) r (now (out .exit)) ⌝ }
 {
-    let mut table = [0u32; 8704];
+    let mut table = [0u32; TABLE_SIZE];
     let reading = read_puzzle(words, &mut table);
     match reading {
         Reading::Refused(why) => Answer::Refused(why),
@@ -72,7 +74,7 @@ pub fn check_model(words: &[u32], model: &[u8], out: &mut [u8]) -> Answer
 pub fn blocking(words: &[u32], model: &[u8], out: &mut [i32]) -> Answer
     ensures { λ r. ⌜ Answers (andThen (puzzleChecks (now (words .entry))) (modelChecks (puzzle (now (words .entry))) (now (model .entry)))) (clauseWords (S.blocking (puzzle (now (words .entry))) (value (now (model .entry))))) (now (out .entry)) r (now (out .exit)) ⌝ }
 {
-    let mut table = [0u32; 8704];
+    let mut table = [0u32; TABLE_SIZE];
     let reading = read_puzzle(words, &mut table);
     match reading {
         Reading::Refused(why) => Answer::Refused(why),

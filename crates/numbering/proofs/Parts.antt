@@ -14,17 +14,18 @@ use Rattle.puzzles.specs.Puzzle.{Puzzle, lines, clueAt}
 use Rattle.puzzles.specs.Checks.{puzzle}
 use Rattle.puzzles.specs.Good.{Good}
 use Rattle.puzzles.proofs.Accepting.{accepted-is, accepted-sectioned}
-use Rattle.boards.specs.Table.{LineLaid}
+use Rattle.boards.specs.Layout.{lineSize, tableSize, firstWord, positionsWord, startWord}
+use Rattle.boards.specs.Table.{LineLaid, Found}
+use Rattle.boards.specs.declared.table.Parts.{Parts}
 use Rattle.boards.specs.Reading.{Held}
 use Rattle.boards.specs.declared.board.Board.{Board}
-use Rattle.boards.proofs.Finding.{laid-first, laid-positions, laid-start, found-within, found-part}
-use Rattle.boards.proofs.Laying.{lines-most}
+use Rattle.boards.proofs.Finding.{laid-first, laid-positions, laid-start}
 use Rattle.numbering.specs.Variables.{lineAt}
 use Rattle.numbering.specs.Tables.{Ready, lineOf, Sound}
 use Rattle.numbering.proofs.Bounds.{line-sound}
 
 -- words that were read are ready
-pub held-ready : (ws table : List ℕ) (b : Board) → Held ws table b → 8704 ≤ length table → Ready ws table
+pub held-ready : (ws table : List ℕ) (b : Board) → Held ws table b → tableSize ≤ length table → Ready ws table
 held-ready ws table b H l = record {
   sectioned = accepted-sectioned ws (H .checked);
   good = accepted-is 0 ws (H .checked) .good;
@@ -34,15 +35,15 @@ held-ready ws table b H l = record {
 
 module _ (z : Puzzle) (table : List ℕ) (l : ℕ) (G : Good z) (h : l < lines z) (L : LineLaid z table l) where
   -- a word of the line's part of the table
-  part-word : (i : ℕ) → i < 68 → getD (take 68 (drop (68 * l) table)) i 0 ≡ getD table (68 * l + i) 0
-  part-word i k = getD-take 68 (drop (68 * l) table) i 0 k ∙ getD-drop (68 * l) table i 0
+  part-word : (i : ℕ) → i < lineSize → getD (take lineSize (drop (lineSize * l) table)) i 0 ≡ getD table (lineSize * l + i) 0
+  part-word i k = getD-take lineSize (drop (lineSize * l) table) i 0 k ∙ getD-drop (lineSize * l) table i 0
 
   part-run : (b : ℕ) → b < length (clueAt z l)
-      → record { start = getD (take 68 (drop (68 * l) table)) (4 + b) 0; size = getD (words (clueAt z l)) (2 * b) 0; color = getD (words (clueAt z l)) (2 * b + 1) 0 } ≡ at (packed gap (clueAt z l)) b
+      → record { start = getD (take lineSize (drop (lineSize * l) table)) (startWord b) 0; size = getD (words (clueAt z l)) (2 * b) 0; color = getD (words (clueAt z l)) (2 * b + 1) 0 } ≡ at (packed gap (clueAt z l)) b
   part-run b k =
-      rw (part-word (4 + b) (omega (arith, G .few l h)) ∙ laid-start z table l L b k, word-size (clueAt z l) b ∙ sym (packed-size gap (clueAt z l) b), word-color (clueAt z l) b ∙ sym (packed-color gap (clueAt z l) b))
+      rw (part-word (startWord b) (omega (arith, G .few l h)) ∙ laid-start z table l L b k, word-size (clueAt z l) b ∙ sym (packed-size gap (clueAt z l) b), word-color (clueAt z l) b ∙ sym (packed-color gap (clueAt z l) b))
 
-  part-runs : lineOf (take 68 (drop (68 * l) table)) (words (clueAt z l)) .runs ≡ packed gap (clueAt z l)
+  part-runs : lineOf (take lineSize (drop (lineSize * l) table)) (words (clueAt z l)) .runs ≡ packed gap (clueAt z l)
   unfolding lineOf
   part-runs =
       let bs = clueAt z l in
@@ -51,26 +52,24 @@ module _ (z : Puzzle) (table : List ℕ) (l : ℕ) (G : Good z) (h : l < lines z
       let k′ : b < length bs = rw length-tab at k in
       getD-tab (length bs) _ _ b k′ ∙ part-run b k′))
 
-  pub part-line : lineOf (take 68 (drop (68 * l) table)) (words (clueAt z l)) ≡ lineAt z l
+  pub part-line : lineOf (take lineSize (drop (lineSize * l) table)) (words (clueAt z l)) ≡ lineAt z l
   part-line = unfold lineOf lineAt in
-      rw (← part-runs, ← laid-first z table l L, ← laid-positions z table l L, ← part-word 1 (omega arith), ← part-word 2 (omega arith))
+      rw (← part-runs, ← laid-first z table l L, ← laid-positions z table l L, ← part-word firstWord (omega arith), ← part-word positionsWord (omega arith))
 
--- `&table[68 * l..68 * l + 68]` and `&words[from + 1..end]`
+-- line l, as it was found
 module _ (ws table : List ℕ) (R : Ready ws table) (l : ℕ) (h : l < lines (puzzle ws)) where
   pub ready-sound : Sound (lineAt (puzzle ws) l)
   ready-sound = line-sound (puzzle ws) (R .good) l h
 
-  pub ready-low : l < 128
-  ready-low = omega (arith, lines-most ws (R .sectioned) l h)
+  -- `&table[line..line + LINE_SIZE]` and `&words[begin..end]` hold it
+  module _ {p : Parts} (F : Found ws table l p) where
+    pub found-line : lineOf (take (p .line + lineSize - p .line) (drop (p .line) table)) (take (p .end - p .begin) (drop (p .begin) ws)) ≡ lineAt (puzzle ws) l
+    found-line =
+        let n : lineSize * l + lineSize - lineSize * l ≡ lineSize = omega arith in
+        rw (F .line-is, n, F .clue-is) (part-line (puzzle ws) table l (R .good) h (R .laid l h))
 
-  pub ready-long : 68 ≤ length (take (68 * l + 68 - 68 * l) (drop (68 * l) table))
-  ready-long = rw (length-take, length-drop) (omega (arith, ready-low, R .long))
+    pub found-sound : Sound (lineOf (take (p .line + lineSize - p .line) (drop (p .line) table)) (take (p .end - p .begin) (drop (p .begin) ws)))
+    found-sound = rw found-line ready-sound
 
-  module _ {from : ℕ} (e : from ≡ getD table (68 * l) 0) where
-    pub ready-within : from + 1 + 2 * getD ws from 0 ≤ length ws
-    ready-within = found-within ws (R .sectioned) table (R .laid) l h e
-
-    pub ready-line : {end : ℕ} → end ≡ from + 1 + 2 * getD ws from 0 → lineOf (take (68 * l + 68 - 68 * l) (drop (68 * l) table)) (take (end - (from + 1)) (drop (from + 1) ws)) ≡ lineAt (puzzle ws) l
-    ready-line {end} q =
-        let n : 68 * l + 68 - 68 * l ≡ 68 = omega arith in
-        rw (n, found-part ws (R .sectioned) table (R .laid) l h e q) (part-line (puzzle ws) table l (R .good) h (R .laid l h))
+    pub found-long : lineSize ≤ length (take (p .line + lineSize - p .line) (drop (p .line) table))
+    found-long = rw (length-take, length-drop) (omega (arith, F .line-within))

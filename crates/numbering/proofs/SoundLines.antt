@@ -12,6 +12,7 @@ use Rattle.lines.specs.Clue.{end, gap, minSpace}
 use Rattle.lines.specs.Arrangement.{at, clash, distance, Meets}
 use Rattle.lines.proofs.Packing.{base-gap, packed-length, sizes-within, blocks-within}
 use Rattle.lines.proofs.Moving.{positions-some, positions-space, moved-within, packed-clear, packed-meets}
+use Rattle.boards.specs.Layout.{firstWord, positionsWord, startWord}
 use Rattle.numbering.specs.Variables.{Line, many, placedAt, firstOf}
 use Rattle.numbering.specs.Tables.{lineOf, Sound}
 
@@ -76,12 +77,12 @@ module _ (line clue : List ℕ) where
   unfolding lineOf
   of-many = length-tab (length clue / 2) _
 
-  pub of-run : (b : ℕ) → b < many (lineOf line clue) → at (lineOf line clue .runs) b ≡ record { start = getD line (4 + b) 0; size = getD clue (2 * b) 0; color = getD clue (2 * b + 1) 0 }
+  pub of-run : (b : ℕ) → b < many (lineOf line clue) → at (lineOf line clue .runs) b ≡ record { start = getD line (startWord b) 0; size = getD clue (2 * b) 0; color = getD clue (2 * b + 1) 0 }
   unfolding lineOf
   of-run b h = getD-tab (length clue / 2) _ _ b (omega (arith, of-many))
 
   module _ (b : ℕ) (h : b < many (lineOf line clue)) where
-    pub of-start : getD line (4 + b) 0 ≡ at (lineOf line clue .runs) b .start
+    pub of-start : getD line (startWord b) 0 ≡ at (lineOf line clue .runs) b .start
     of-start = sym (ap (λ r. r .start) (of-run b h))
 
     pub of-size : getD clue (2 * b) 0 ≡ at (lineOf line clue .runs) b .size
@@ -90,10 +91,10 @@ module _ (line clue : List ℕ) where
     pub of-color : getD clue (2 * b + 1) 0 ≡ at (lineOf line clue .runs) b .color
     of-color = sym (ap (λ r. r .color) (of-run b h))
 
-  pub of-first : getD line 1 0 ≡ lineOf line clue .first
+  pub of-first : getD line firstWord 0 ≡ lineOf line clue .first
   unfolding lineOf
   of-first = refl
 
-  pub of-positions : getD line 2 0 ≡ lineOf line clue .positions
+  pub of-positions : getD line positionsWord 0 ≡ lineOf line clue .positions
   unfolding lineOf
   of-positions = refl

@@ -8,6 +8,7 @@ use Rattle.lines.specs.Clue.{Block, gap, packed, minSpace, positions}
 use Rattle.lines.specs.Arrangement.{Proper}
 use Rattle.puzzles.specs.Checks.{puzzle, Sectioned}
 use Rattle.puzzles.specs.Good.{Good}
+use Rattle.boards.specs.Layout.{tableSize, firstWord, positionsWord, startWord}
 use Rattle.boards.specs.Table.{Laid}
 use Rattle.numbering.specs.Variables.{Line, many}
 
@@ -16,14 +17,14 @@ pub record Ready (ws table : List ℕ) : Type 0 where
   pub sectioned : Sectioned ws
   pub good : Good (puzzle ws)
   pub laid : Laid (puzzle ws) table
-  pub long : 8704 ≤ length table
+  pub long : tableSize ≤ length table
 
--- the line that 68 words of the table and the words of a clue hold
+-- the line that a line's words in the table and the words of a clue hold
 unfoldable pub lineOf : List ℕ → List ℕ → Line
 lineOf line clue = record {
-  first = getD line 1 0;
-  positions = getD line 2 0;
-  runs = tab (length clue / 2) (λ b. record { start = getD line (4 + b) 0; size = getD clue (2 * b) 0; color = getD clue (2 * b + 1) 0 });
+  first = getD line firstWord 0;
+  positions = getD line positionsWord 0;
+  runs = tab (length clue / 2) (λ b. record { start = getD line (startWord b) 0; size = getD clue (2 * b) 0; color = getD clue (2 * b + 1) 0 });
 }
 
 -- what holds of a line of an accepted puzzle

@@ -3,7 +3,7 @@ use mathlib.Core.Path.{_≡_}
 use mathlib.Core.List.{List, [], _∷_}
 use Prim.Native.Nat.{ℕ, _+_, _-_, _*_, _/_, _≤_, _<_}
 use native.Mathlib.Omega.{arith}
-use lib.ListN.{length, getD}
+use lib.ListN.{length}
 use Rattle.lists.specs.Each.{each, tab}
 use Rattle.lists.proofs.Eaches.{rest}
 use Rattle.literals.specs.Literals.{largest}
@@ -13,7 +13,7 @@ use Rattle.numbering.specs.Tables.{Sound, lineOf}
 use Rattle.numbering.proofs.SoundLines.{of-many}
 use Rattle.placement.specs.Placement.{blockPositions, blockOnce, conflicts}
 use Rattle.placement.specs.PairRows.{rowsFrom, laterPairs}
-use Rattle.placement.proofs.BlockLoops.{first-is, positions-is, in-range, blocks-are, later-are}
+use Rattle.placement.proofs.BlockLoops.{in-range, blocks-are, later-are}
 use Rattle.placement.proofs.RowLaw.{rows-late}
 use Rattle.placed.specs.Known.{Known}
 
@@ -23,7 +23,7 @@ pub record Has (m first p b : ℕ) : Type 0 where
   pub most : first + b * p + p ≤ largest + 1
   pub bytes : first + b * p + p ≤ m + 1
 
-module _ (line clue : List ℕ) (S : Sound (lineOf line clue)) {first p : ℕ} (fe : first ≡ getD line 1 0) (pe : p ≡ getD line 2 0) where
+module _ (line clue : List ℕ) (S : Sound (lineOf line clue)) {first p : ℕ} (fe : first ≡ lineOf line clue .first) (pe : p ≡ lineOf line clue .positions) where
   abbrev L : Line
   L = lineOf line clue
 
@@ -31,9 +31,9 @@ module _ (line clue : List ℕ) (S : Sound (lineOf line clue)) {first p : ℕ} (
   has-block m b K h =
       let l : b < many L = omega (arith, of-many line clue) in
       record {
-        least = rw (first-is line clue S fe pe) (S .least);
+        least = rw fe (S .least);
         most = in-range line clue S fe pe b h .1;
-        bytes = rw (first-is line clue S fe pe, positions-is line clue S fe pe) (K b l);
+        bytes = rw (fe, pe) (K b l);
       }
 
   pub positions-are : blockPositions L ≡ tab (length clue / 2) (λ b. atLeastOne (first + b * p) p)

@@ -1,6 +1,7 @@
 // Families 5 and 6, of one line: whether a model has no two blocks in conflict.
-use lists::wide;
 use numbering::line::distance_of;
+use numbering::line::first_of;
+use numbering::line::positions_of;
 use truth::Tested;
 use truth::test_row;
 ghost use mathlib.Core.Path.{_≡_};
@@ -8,6 +9,7 @@ ghost use Prim.Native.Nat.{_+_, _/_, _≤_, _<_};
 ghost use lib.ListN.{length};
 ghost use Rattle.truth.specs.Truth.{value};
 ghost use Rattle.truth.specs.Tested.{tested, said, Countable};
+ghost use Rattle.boards.specs.Layout.{lineSize};
 ghost use Rattle.numbering.specs.Tables.{Sound, lineOf};
 ghost use Rattle.placement.specs.Placement.{nonOverlap};
 ghost use Rattle.placement.specs.PairRows.{rowsFrom, laterPairs};
@@ -32,13 +34,13 @@ fn test_rows(model: &[u8], va: usize, vb: usize, d: usize, p: usize, at: usize) 
 
 // Block a with each later one.
 fn test_later(a: usize, model: &[u8], line: &[u32], clue: &[u32], at: usize) -> Tested
-    requires { ⌜ Sound (lineOf (now line) (now clue)) × Known (length (now model)) (lineOf (now line) (now clue)) × (68 ≤ length (now line)) ⌝ }
+    requires { ⌜ Sound (lineOf (now line) (now clue)) × Known (length (now model)) (lineOf (now line) (now clue)) × (lineSize ≤ length (now line)) ⌝ }
     requires { ⌜ a < length (now clue) / 2 ⌝ }
     requires { ⌜ Countable at (laterPairs (lineOf (now line) (now clue)) a) ⌝ }
     ensures { λ r. ⌜ said r ≡ tested (value (now (model .entry))) at (laterPairs (lineOf (now (line .entry)) (now (clue .entry))) a) ⌝ }
 {
-    let first = wide(line[1]);
-    let p = wide(line[2]);
+    let first = first_of(line);
+    let p = positions_of(line);
     let mut to = at;
     for b in a + 1..clue.len() / 2 {
         let d = distance_of(line, clue, a, b);
@@ -53,7 +55,7 @@ fn test_later(a: usize, model: &[u8], line: &[u32], clue: &[u32], at: usize) -> 
 
 // Each block with the later ones.
 pub fn test_overlaps(model: &[u8], line: &[u32], clue: &[u32], at: usize) -> Tested
-    requires { ⌜ Sound (lineOf (now line) (now clue)) × Known (length (now model)) (lineOf (now line) (now clue)) × (68 ≤ length (now line)) ⌝ }
+    requires { ⌜ Sound (lineOf (now line) (now clue)) × Known (length (now model)) (lineOf (now line) (now clue)) × (lineSize ≤ length (now line)) ⌝ }
     requires { ⌜ Countable at (nonOverlap (lineOf (now line) (now clue))) ⌝ }
     ensures { λ r. ⌜ said r ≡ tested (value (now (model .entry))) at (nonOverlap (lineOf (now (line .entry)) (now (clue .entry)))) ⌝ }
 {

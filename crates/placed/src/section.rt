@@ -1,7 +1,7 @@
 // What a model makes of a section of one rule: the lines one after another, found through the table.
 use crate::line::test_rule;
-use boards::table::clue_end;
-use lists::wide;
+use boards::layout::LINE_SIZE;
+use boards::table::find_line;
 use placement::rule::Rule;
 use truth::Tested;
 ghost use mathlib.Core.Path.{_≡_};
@@ -21,14 +21,15 @@ fn test_line(rule: Rule, words: &[u32], table: &[u32], model: &[u8], l: usize, a
     requires { ⌜ Countable at (ruled rule (lineAt (puzzle (now words)) l)) ⌝ }
     ensures { λ r. ⌜ said r ≡ tested (value (now (model .entry))) at (ruled rule (lineAt (puzzle (now (words .entry))) l)) ⌝ }
 {
-    let place = 68 * l;
-    let begin = wide(table[place]);
-    let end = clue_end(words, begin);
+    let parts = find_line(words, table, l);
+    let line = parts.line;
+    let begin = parts.begin;
+    let end = parts.end;
     test_rule(
         rule,
         model,
-        &table[place..place + 68],
-        &words[begin + 1..end],
+        &table[line..line + LINE_SIZE],
+        &words[begin..end],
         at,
     )
 }

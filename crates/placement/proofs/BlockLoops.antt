@@ -1,11 +1,11 @@
 -- The loops over the blocks of a line, given its words in the table and the words of its clue.
-use mathlib.Core.Path.{_≡_, _∙_}
+use mathlib.Core.Path.{_≡_}
 use mathlib.Core.List.{List, [], _∷_}
 use Prim.Native.Nat.{ℕ, _+_, _-_, _*_, _/_, _≤_, _<_}
 use native.Mathlib.Omega.{arith}
 use native.Mathlib.Numerals.{add-one}
 use lib.IntN.{ℤ}
-use lib.ListN.{length, getD}
+use lib.ListN.{length}
 use Rattle.lists.specs.Each.{each, tab}
 use Rattle.lists.specs.Wrote.{Wrote}
 use Rattle.lists.proofs.Emitting.{Emitting, EmittingFrom}
@@ -16,7 +16,7 @@ use Rattle.lines.specs.Clue.{gap}
 use Rattle.lines.specs.Arrangement.{at, Meets}
 use Rattle.numbering.specs.Variables.{Line, many, firstOf}
 use Rattle.numbering.specs.Tables.{Sound, lineOf}
-use Rattle.numbering.proofs.SoundLines.{sound-least, sound-most, of-many, of-first, of-positions}
+use Rattle.numbering.proofs.SoundLines.{sound-least, sound-most, of-many}
 use Rattle.placement.specs.Placement.{blockPositions, blockOnce, conflicts, nonOverlap}
 use Rattle.placement.specs.PairRows.{rowsFrom, laterPairs}
 use Rattle.placement.proofs.RowLaw.{conflicts-rows, non-overlap-later}
@@ -31,22 +31,16 @@ module _ (line clue : List ℕ) (S : Sound (lineOf line clue)) where
 
   -- ---- its first variable and its positions, as they are read
 
-  module _ {first p : ℕ} (fe : first ≡ getD line 1 0) (pe : p ≡ getD line 2 0) where
-    pub first-is : first ≡ L .first
-    first-is = fe ∙ of-first line clue
-
-    pub positions-is : p ≡ L .positions
-    positions-is = pe ∙ of-positions line clue
-
+  module _ {first p : ℕ} (fe : first ≡ L .first) (pe : p ≡ L .positions) where
     -- the variables of a block
     pub in-range : (b : ℕ) → b < length clue / 2 → InRange (first + b * p) p
     in-range b h =
         let l : b < many L = omega (arith, of-many line clue) in
-        rw (first-is, positions-is) (sound-least S b l, omega (arith, sound-most S b l))
+        rw (fe, pe) (sound-least S b l, omega (arith, sound-most S b l))
 
     module _ (g : ℕ → ℕ → List Clause) where
       pub blocks-are : each (many L) (λ b. g (firstOf L b) (L .positions)) ≡ each (length clue / 2) (λ b. g (first + b * p) p)
-      blocks-are = rw (of-many line clue, first-is, positions-is)
+      blocks-are = rw (of-many line clue, fe, pe)
 
       blocks-first : (out : List ℤ) (to : ℕ) → to + length (clausesWords (each (many L) (λ b. g (firstOf L b) (L .positions)))) ≤ length out
           → Emitting (length clue / 2) (λ b. clausesWords (g (first + b * p) p)) out to out to 0
@@ -78,7 +72,7 @@ module _ (line clue : List ℕ) (S : Sound (lineOf line clue)) where
 
     -- a pair of blocks, by how far the earlier one must be ahead
     pub pair-is : (a b : ℕ) {d : ℕ} → Meets gap (at (L .runs) a) (at (L .runs) b) d → conflicts L a b ≡ rowsFrom (first + a * p) (first + b * p) d p
-    pair-is a b M = rw (first-is, positions-is) (conflicts-rows L a b M)
+    pair-is a b M = rw (fe, pe) (conflicts-rows L a b M)
 
   -- ---- a block with each later one
 

@@ -1,8 +1,8 @@
 // A section of one rule: its clause count, then what it says of the lines, one after another.
 use crate::line::line_clauses;
 use crate::rule::Rule;
-use boards::table::clue_end;
-use lists::wide;
+use boards::layout::LINE_SIZE;
+use boards::table::find_line;
 use literals::count_word;
 ghost use mathlib.Core.Path.{_≡_};
 ghost use Prim.Native.Nat.{_+_, _≤_, _<_};
@@ -28,13 +28,14 @@ fn write_line(
     requires { ⌜ at + length (clausesWords (ruled rule (lineAt (puzzle (now words)) l))) ≤ length (now out) ⌝ }
     ensures { λ r. ⌜ Wrote (clausesWords (ruled rule (lineAt (puzzle (now (words .entry))) l))) (now (out .entry)) at (now (out .exit)) r ⌝ }
 {
-    let place = 68 * l;
-    let begin = wide(table[place]);
-    let end = clue_end(words, begin);
+    let parts = find_line(words, table, l);
+    let line = parts.line;
+    let begin = parts.begin;
+    let end = parts.end;
     line_clauses(
         rule,
-        &table[place..place + 68],
-        &words[begin + 1..end],
+        &table[line..line + LINE_SIZE],
+        &words[begin..end],
         out,
         at,
     )

@@ -1,15 +1,19 @@
 // What is read of a puzzle's words: its board, and what the table has of each line.
 use boards::board::Board;
 use boards::board::Reading;
+use boards::layout::LINE_SIZE;
+use boards::layout::STARTS;
+use boards::layout::TABLE_SIZE;
 use cases::number::at_most;
 use cases::number::index;
 use cases::number::low;
 use shows::show::show;
 ghost use Prim.Native.Nat.{_≤_};
 ghost use lib.ListN.{length};
+ghost use Rattle.boards.specs.Layout.{tableSize};
 
 pub fn answer(words: &[u32]) {
-    let mut table = [0u32; 8704];
+    let mut table = [0u32; TABLE_SIZE];
     let reading = boards::board::read_puzzle(words, &mut table);
     match reading {
         Reading::Read(board) => show_board(words, &table, board),
@@ -18,7 +22,7 @@ pub fn answer(words: &[u32]) {
 }
 
 fn show_board(words: &[u32], table: &[u32], board: Board) {
-    let mut out = [0u32; 8709];
+    let mut out = [0u32; 5 + TABLE_SIZE];
     out[0] = low(board.width);
     out[1] = low(board.height);
     out[2] = low(board.rows);
@@ -36,20 +40,20 @@ fn list_lines(words: &[u32], table: &[u32], lines: usize, out: &mut [u32]) -> us
 {
     let mut at = 5;
     for line in 0..lines {
-        at = list_line(words, table, line * 68, out, at);
+        at = list_line(words, table, line * LINE_SIZE, out, at);
     }
     at
 }
 
-// Four words, and a start for each block: the first of the four is where the number of blocks stands.
+// The words in front of the starts, and a start for each block: the first word is where the number of blocks stands.
 fn list_line(words: &[u32], table: &[u32], from: usize, out: &mut [u32], at: usize) -> usize
-    requires { ⌜ (from ≤ 8704) × (at ≤ length (now out)) ⌝ }
+    requires { ⌜ (from ≤ tableSize) × (at ≤ length (now out)) ⌝ }
     ensures { λ r. ⌜ r ≤ length (now (out .entry)) ⌝ }
 {
     let begin = index(word_at(table, from));
     let blocks = at_most(index(word_at(words, begin)), 64);
     let mut next = at;
-    for i in from..from + 4 + blocks {
+    for i in from..from + STARTS + blocks {
         if next == out.len() {
             return next;
         }

@@ -1,6 +1,4 @@
 use Rattle.puzzles.proofs.Accepting.{sizes}
-use Rattle.boards.proofs.Finding.{found-within, found-part}
-use Rattle.boards.proofs.Laying.{lines-most}
 use Rattle.boards.proofs.Coloring.{Joining, joining-first, joining-next, joined-none, joined-some}
 use Rattle.puzzles.specs.Checks as C
 use Rattle.puzzles.specs.Puzzle as P
@@ -20,9 +18,6 @@ abbrev μ-loop : tie.MeasureT-loop
 in-line : (c : tie.In-loop Inv-loop μ-loop) → c .before .loop .l < P.lines (C.puzzle (c .before .before .before .before .args .words .now))
 in-line c = omega (arith, c .before .loop .inv .0, c .loop-test .taken, c .before .before .before .before .pre .1 .1)
 
-low : (c : tie.In-loop Inv-loop μ-loop) → P.lines (C.puzzle (c .before .before .before .before .args .words .now)) ≤ 128
-low c = lines-most _ (c .before .before .before .before .pre .0) _ (in-line c)
-
 pub row-colors-spec : {M : Type 1} → statement M
 row-colors-spec =
     tie.close
@@ -31,19 +26,14 @@ row-colors-spec =
     μ-loop
     (λ c. omega (arith, c .before .before .pre .1 .1, sizes (c .before .before .args .words .now) (c .before .before .pre .0)))
     (λ c. (refl, rw (c .before .before .pre .1 .1 .0) (joining-first _)))
-    (λ c. omega (arith, in-line c, low c))
-    (λ c. omega (arith, in-line c, low c))
-    (λ c. omega (arith, in-line (c .before), low (c .before), c .before .before .before .before .before .pre .1 .1))
+    (λ c κs. ((c .before .before .before .before .pre .0, c .before .before .before .before .pre .1 .0), (in-line c, c .before .before .before .before .pre .1 .1 .2)))
+    (λ c. omega (arith, c .find-line .ensures))
+    (λ c. omega (arith, c .find-line .ensures))
+    (λ c. omega (arith, c .find-line .ensures))
+    (λ c. c .find-line .ensures .end-within)
     (λ c κs. search needs)
-    (λ c κs. found-within _ (c .before .before .before .before .before .before .pre .0) _ (c .before .before .before .before .before .before .pre .1 .0) _ (in-line (c .before .before)) (c .wide .ensures))
-    (λ c. omega (arith, found-within _ (c .before .before .before .before .before .before .before .pre .0) _ (c .before .before .before .before .before .before .before .pre .1 .0) _ (in-line (c .before .before .before)) (c .before .wide .ensures), c .clue-end .ensures))
-    (λ c. omega (arith, found-within _ (c .before .before .before .before .before .before .before .pre .0) _ (c .before .before .before .before .before .before .before .pre .1 .0) _ (in-line (c .before .before .before)) (c .before .wide .ensures), c .clue-end .ensures))
-    (λ c. omega (arith, found-within _ (c .before .before .before .before .before .before .before .pre .0) _ (c .before .before .before .before .before .before .before .pre .1 .0) _ (in-line (c .before .before .before)) (c .before .wide .ensures), c .clue-end .ensures))
-    (λ c. omega (arith, c .clue-end .ensures))
-    (λ c. omega (arith, found-within _ (c .before .before .before .before .before .before .before .pre .0) _ (c .before .before .before .before .before .before .before .pre .1 .0) _ (in-line (c .before .before .before)) (c .before .wide .ensures), c .clue-end .ensures))
-    (λ c κs. search needs)
-    (λ c. omega (arith, in-line (c .before .before .before .before .before), low (c .before .before .before .before .before)))
+    (λ c. omega (arith, c .before .before .before .before .loop .inv .0, c .before .before .before .loop-test .taken, c .before .before .before .before .before .before .before .pre .1 .1, sizes (c .before .before .before .before .before .before .before .args .words .now) (c .before .before .before .before .before .before .before .pre .0)))
     (λ c. search needs)
-    (λ c. (c .before .before .before .before .before .before .loop .inv .0, joining-next (c .before .before .before .before .before .before .loop .inv .1) (omega (arith, c .before .before .before .before .before .before .loop .inv .0, c .before .before .before .before .before .loop-test .taken, c .before .before .before .before .before .before .before .before .before .pre .1 .1)) (c .with-colors .ensures) (found-part _ (c .before .before .before .before .before .before .before .before .before .pre .0) _ (c .before .before .before .before .before .before .before .before .before .pre .1 .0) _ (in-line (c .before .before .before .before .before)) (c .before .before .before .wide .ensures) (c .before .before .clue-end .ensures))))
+    (λ c. (c .before .before .before .before .loop .inv .0, joining-next (c .before .before .before .before .loop .inv .1) (in-line (c .before .before .before)) (c .with-colors .ensures) (c .before .before .find-line .ensures .clue-is)))
     (λ c. joined-none (c .before .before .loop .inv .1) (omega (arith, c .before .before .loop .inv .0, c .before .loop-test .left, c .before .before .before .before .before .pre .1 .1)) (c .if1 .taken))
     (λ c. joined-some (c .before .before .loop .inv .1) (omega (arith, c .before .before .loop .inv .0, c .before .loop-test .left, c .before .before .before .before .before .pre .1 .1)) (c .if1 .left)))

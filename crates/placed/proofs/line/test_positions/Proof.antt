@@ -24,8 +24,8 @@ Inv-clauses model line clue at first p b₀ b-end b = SomesTesting (value model)
 abbrev μ-clauses : tie.MeasureT-clauses
 μ-clauses model line clue at first p b₀ b-end b = length clue / 2 - b
 
-has : (c : tie.In-loop Inv-loop μ-loop Inv-clauses μ-clauses) → Has (length (c .before .before .before .before .before .before .before .before .before .before .before .args .model .now)) (c .before .before .before .before .before .before .wide .result) (c .before .before .before .before .wide2 .result) (c .before .loop .b)
-has c = has-block _ _ (c .before .before .before .before .before .before .before .before .before .before .before .pre .0 .0) (c .before .before .before .before .before .before .wide .ensures) (c .before .before .before .before .wide2 .ensures) _ _ (c .before .before .before .before .before .before .before .before .before .before .before .pre .0 .1) (c .before .loop .inv .1 .below)
+has : (c : tie.In-loop Inv-loop μ-loop Inv-clauses μ-clauses) → Has (length (c .before .before .before .before .before .before .before .before .before .args .model .now)) (c .before .before .before .before .before .first-of .result) (c .before .before .before .before .positions-of .result) (c .before .loop .b)
+has c = has-block _ _ (c .before .before .before .before .before .before .before .before .before .pre .0 .0) (c .before .before .before .before .before .first-of .ensures _) (c .before .before .before .before .positions-of .ensures _) _ _ (c .before .before .before .before .before .before .before .before .before .pre .0 .1) (c .before .loop .inv .1 .below)
 
 pub test-positions-spec : {M : Type 1} → statement M
 test-positions-spec =
@@ -35,11 +35,9 @@ test-positions-spec =
     μ-loop
     Inv-clauses
     μ-clauses
-    (λ c. search needs)
     (λ c κs. search needs)
-    (λ c. search needs)
     (λ c κs. search needs)
-    (λ c. somes-first _ _ _ _ (positions-are _ _ (c .before .before .before .before .before .before .before .pre .0 .0) (c .before .before .wide .ensures) (c .wide2 .ensures)) _ _)
+    (λ c. somes-first _ _ _ _ (positions-are _ _ (c .before .before .before .before .before .pre .0 .0) (c .before .first-of .ensures _) (c .positions-of .ensures _)) _ _)
     (λ c. (refl, record { below = c .clauses-test .taken; clauses = c .before .clauses .inv; left = some-first _ _ _ }))
     (λ c. omega (arith, has c))
     (λ c. omega (arith, has c))
@@ -51,7 +49,7 @@ test-positions-spec =
     (λ c. search needs)
     (λ c. search needs)
     (λ c. (c .before .before .before .loop .inv .0, literal-false (c .before .before .before .loop .inv .1) (c .before .before .loop-test .taken) (sym (c .before .on .ensures) ∙ c .if1 .left)))
-    (λ c. omega (arith, testing-room (c .before .loop .inv .1 .clauses) (c .before .loop .inv .1 .below) (c .before .before .before .before .before .before .before .before .before .before .before .pre .1)))
+    (λ c. omega (arith, testing-room (c .before .loop .inv .1 .clauses) (c .before .loop .inv .1 .below) (c .before .before .before .before .before .before .before .before .before .pre .1)))
     (λ c. literals-false (c .before .loop .inv .1) (c .loop-test .left))
-    (λ c. omega (arith, somes-length _ _ _ _ (positions-are _ _ (c .before .before .before .before .before .before .before .before .before .pre .0 .0) (c .before .before .before .before .wide .ensures) (c .before .before .wide2 .ensures)), c .before .before .before .before .before .before .before .before .before .pre .1))
-    (λ c. somes-done _ _ _ _ (positions-are _ _ (c .before .before .before .before .before .before .before .before .before .pre .0 .0) (c .before .before .before .before .wide .ensures) (c .before .before .wide2 .ensures)) _ _ (c .before .clauses .inv) (c .clauses-test .left)))
+    (λ c. omega (arith, somes-length _ _ _ _ (positions-are _ _ (c .before .before .before .before .before .before .before .pre .0 .0) (c .before .before .before .first-of .ensures _) (c .before .before .positions-of .ensures _)), c .before .before .before .before .before .before .before .pre .1))
+    (λ c. somes-done _ _ _ _ (positions-are _ _ (c .before .before .before .before .before .before .before .pre .0 .0) (c .before .before .before .first-of .ensures _) (c .before .before .positions-of .ensures _)) _ _ (c .before .clauses .inv) (c .clauses-test .left)))

@@ -19,15 +19,15 @@ Inv-loop a model line clue at first p to₀ b₀ b-end to b = (a < b) × Testing
 abbrev μ-loop : tie.MeasureT-loop
 μ-loop a model line clue at first p to₀ b₀ b-end to b = length clue / 2 - b
 
-earlier : (c : tie.In-loop Inv-loop μ-loop) → Has (length (c .before .before .before .before .before .before .before .before .before .args .model .now)) (c .before .before .before .before .wide .result) (c .before .before .wide2 .result) (c .before .before .before .before .before .before .before .before .before .args .a)
-earlier c = has-block _ _ (c .before .before .before .before .before .before .before .before .before .pre .0 .0) (c .before .before .before .before .wide .ensures) (c .before .before .wide2 .ensures) _ _ (c .before .before .before .before .before .before .before .before .before .pre .0 .1) (c .before .before .before .before .before .before .before .before .before .pre .1 .0)
+earlier : (c : tie.In-loop Inv-loop μ-loop) → Has (length (c .before .before .before .before .before .before .before .args .model .now)) (c .before .before .before .first-of .result) (c .before .before .positions-of .result) (c .before .before .before .before .before .before .before .args .a)
+earlier c = has-block _ _ (c .before .before .before .before .before .before .before .pre .0 .0) (c .before .before .before .first-of .ensures _) (c .before .before .positions-of .ensures _) _ _ (c .before .before .before .before .before .before .before .pre .0 .1) (c .before .before .before .before .before .before .before .pre .1 .0)
 
-later : (c : tie.In-loop Inv-loop μ-loop) → Has (length (c .before .before .before .before .before .before .before .before .before .args .model .now)) (c .before .before .before .before .wide .result) (c .before .before .wide2 .result) (c .before .loop .b)
-later c = has-block _ _ (c .before .before .before .before .before .before .before .before .before .pre .0 .0) (c .before .before .before .before .wide .ensures) (c .before .before .wide2 .ensures) _ _ (c .before .before .before .before .before .before .before .before .before .pre .0 .1) (c .loop-test .taken)
+later : (c : tie.In-loop Inv-loop μ-loop) → Has (length (c .before .before .before .before .before .before .before .args .model .now)) (c .before .before .before .first-of .result) (c .before .before .positions-of .result) (c .before .loop .b)
+later c = has-block _ _ (c .before .before .before .before .before .before .before .pre .0 .0) (c .before .before .before .first-of .ensures _) (c .before .before .positions-of .ensures _) _ _ (c .before .before .before .before .before .before .before .pre .0 .1) (c .loop-test .taken)
 
 -- the pair's rows, by the distance that was found
-pair : (c : tie.After-distance-of Inv-loop μ-loop) → conflicts (lineOf (c .before .before .before .before .before .before .before .before .before .before .args .line .now) (c .before .before .before .before .before .before .before .before .before .before .args .clue .now)) (c .before .before .before .before .before .before .before .before .before .before .args .a) (c .before .before .loop .b) ≡ rowsFrom (c .before .before .before .before .before .wide .result + c .before .before .before .before .before .before .before .before .before .before .args .a * c .before .before .before .wide2 .result) (c .before .before .before .before .before .wide .result + c .before .before .loop .b * c .before .before .before .wide2 .result) (c .distance-of .result) (c .before .before .before .wide2 .result)
-pair c = pair-is _ _ (c .before .before .before .before .before .before .before .before .before .before .pre .0 .0) (c .before .before .before .before .before .wide .ensures) (c .before .before .before .wide2 .ensures) _ _ (c .distance-of .ensures .0)
+pair : (c : tie.After-distance-of Inv-loop μ-loop) → conflicts (lineOf (c .before .before .before .before .before .before .before .before .args .line .now) (c .before .before .before .before .before .before .before .before .args .clue .now)) (c .before .before .before .before .before .before .before .before .args .a) (c .before .before .loop .b) ≡ rowsFrom (c .before .before .before .before .first-of .result + c .before .before .before .before .before .before .before .before .args .a * c .before .before .before .positions-of .result) (c .before .before .before .before .first-of .result + c .before .before .loop .b * c .before .before .before .positions-of .result) (c .distance-of .result) (c .before .before .before .positions-of .result)
+pair c = pair-is _ _ (c .before .before .before .before .before .before .before .before .pre .0 .0) (c .before .before .before .before .first-of .ensures _) (c .before .before .before .positions-of .ensures _) _ _ (c .distance-of .ensures .0)
 
 pub test-later-spec : {M : Type 1} → statement M
 test-later-spec =
@@ -35,18 +35,16 @@ test-later-spec =
     (tie.spec
     Inv-loop
     μ-loop
-    (λ c. search needs)
     (λ c κs. search needs)
-    (λ c. search needs)
     (λ c κs. search needs)
-    (λ c. omega (arith, c .before .before .before .before .before .before .before .pre .1 .0))
-    (λ c. (omega arith, testing-from _ _ _ _ _ _ (later-rest _ _ (c .before .before .before .before .before .before .before .pre .0 .0) (c .before .before .wide .ensures) (c .wide2 .ensures) _)))
-    (λ c κs. (c .before .before .before .before .before .before .before .before .before .pre .0 .0, c .before .before .before .before .before .before .before .before .before .pre .0 .2, c .before .loop .inv .0, c .loop-test .taken))
+    (λ c. omega (arith, c .before .before .before .before .before .pre .1 .0))
+    (λ c. (omega arith, testing-from _ _ _ _ _ _ (later-rest _ _ (c .before .before .before .before .before .pre .0 .0) (c .before .first-of .ensures _) (c .positions-of .ensures _) _)))
+    (λ c κs. (c .before .before .before .before .before .before .before .pre .0 .0, c .before .before .before .before .before .before .before .pre .0 .2, c .before .loop .inv .0, c .loop-test .taken))
     (λ c. omega (arith, earlier (c .before)))
     (λ c. omega (arith, earlier (c .before)))
     (λ c. omega (arith, later (c .before)))
     (λ c. omega (arith, later (c .before)))
-    (λ c κs. ((omega (arith, earlier (c .before) .least), earlier (c .before) .bytes, omega (arith, later (c .before) .least), later (c .before) .bytes), rw (pair c) at (testing-room (c .before .before .loop .inv .1) (c .before .loop-test .taken) (c .before .before .before .before .before .before .before .before .before .before .pre .1 .1))))
+    (λ c κs. ((omega (arith, earlier (c .before) .least), earlier (c .before) .bytes, omega (arith, later (c .before) .least), later (c .before) .bytes), rw (pair c) at (testing-room (c .before .before .loop .inv .1) (c .before .loop-test .taken) (c .before .before .before .before .before .before .before .before .pre .1 .1))))
     (λ c. search needs)
     (λ c. search needs)
     (λ c. testing-stop (c .before .before .before .before .before .loop .inv .1) (c .before .before .before .before .loop-test .taken) _ (rw (pair (c .before .before .before)) (c .before .before .test-rows .ensures)) (c .enum-told .given .1))

@@ -14,8 +14,8 @@ Inv-loop line clue out₀ at first p to₀ b₀ b-end out to b = Emitting (lengt
 abbrev μ-loop : tie.MeasureT-loop
 μ-loop line clue out₀ at first p to₀ b₀ b-end out to b = length clue / 2 - b
 
-in-block : (c : tie.In-loop Inv-loop μ-loop) → InRange (c .before .before .before .before .wide .result + c .before .loop .b * c .before .before .wide2 .result) (c .before .before .wide2 .result)
-in-block c = in-range _ _ (c .before .before .before .before .before .before .before .before .pre .0 .0) (c .before .before .before .before .wide .ensures) (c .before .before .wide2 .ensures) _ (c .loop-test .taken)
+in-block : (c : tie.In-loop Inv-loop μ-loop) → InRange (c .before .before .before .first-of .result + c .before .loop .b * c .before .before .positions-of .result) (c .before .before .positions-of .result)
+in-block c = in-range _ _ (c .before .before .before .before .before .before .pre .0 .0) (c .before .before .before .first-of .ensures _) (c .before .before .positions-of .ensures _) _ (c .loop-test .taken)
 
 pub block-once-clauses-spec : {M : Type 1} → statement M
 block-once-clauses-spec =
@@ -23,11 +23,9 @@ block-once-clauses-spec =
     (tie.spec
     Inv-loop
     μ-loop
-    (λ c. search needs)
     (λ c κs. search needs)
-    (λ c. search needs)
     (λ c κs. search needs)
-    (λ c. once-first _ _ (c .before .before .before .before .before .before .pre .0 .0) (c .before .before .wide .ensures) (c .wide2 .ensures) _ _ (c .before .before .before .before .before .before .pre .1))
+    (λ c. once-first _ _ (c .before .before .before .before .pre .0 .0) (c .before .first-of .ensures _) (c .positions-of .ensures _) _ _ (c .before .before .before .before .pre .1))
     (λ c. omega (arith, in-block c))
     (λ c. omega (arith, in-block c))
     (λ c κs. (in-block (c .before), emit-room (c .before .before .loop .inv) (c .before .loop-test .taken)))
@@ -35,4 +33,4 @@ block-once-clauses-spec =
     (λ c. search needs)
     (λ c. emit-next (c .before .before .before .before .loop .inv) (c .before .before .before .loop-test .taken) (c .before .at-most-one .ensures))
     (λ c. emit-kept (c .before .loop .inv))
-    (λ c. once-done _ _ (c .before .before .before .before .before .before .before .before .pre .0 .0) (c .before .before .before .before .wide .ensures) (c .before .before .wide2 .ensures) (c .before .loop .inv) (c .loop-test .left)))
+    (λ c. once-done _ _ (c .before .before .before .before .before .before .pre .0 .0) (c .before .before .before .first-of .ensures _) (c .before .before .positions-of .ensures _) (c .before .loop .inv) (c .loop-test .left)))

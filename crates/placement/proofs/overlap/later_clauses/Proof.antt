@@ -18,15 +18,15 @@ Inv-loop a line clue out₀ at first p to₀ b₀ b-end out to b = EmittingFrom 
 abbrev μ-loop : tie.MeasureT-loop
 μ-loop a line clue out₀ at first p to₀ b₀ b-end out to b = length clue / 2 - b
 
-earlier : (c : tie.In-loop Inv-loop μ-loop) → InRange (c .before .before .before .before .wide .result + c .before .before .before .before .before .before .before .before .args .a * c .before .before .wide2 .result) (c .before .before .wide2 .result)
-earlier c = in-range _ _ (c .before .before .before .before .before .before .before .before .pre .0 .0) (c .before .before .before .before .wide .ensures) (c .before .before .wide2 .ensures) _ (c .before .before .before .before .before .before .before .before .pre .1 .0)
+earlier : (c : tie.In-loop Inv-loop μ-loop) → InRange (c .before .before .before .first-of .result + c .before .before .before .before .before .before .args .a * c .before .before .positions-of .result) (c .before .before .positions-of .result)
+earlier c = in-range _ _ (c .before .before .before .before .before .before .pre .0 .0) (c .before .before .before .first-of .ensures _) (c .before .before .positions-of .ensures _) _ (c .before .before .before .before .before .before .pre .1 .0)
 
-later : (c : tie.In-loop Inv-loop μ-loop) → InRange (c .before .before .before .before .wide .result + c .before .loop .b * c .before .before .wide2 .result) (c .before .before .wide2 .result)
-later c = in-range _ _ (c .before .before .before .before .before .before .before .before .pre .0 .0) (c .before .before .before .before .wide .ensures) (c .before .before .wide2 .ensures) _ (c .loop-test .taken)
+later : (c : tie.In-loop Inv-loop μ-loop) → InRange (c .before .before .before .first-of .result + c .before .loop .b * c .before .before .positions-of .result) (c .before .before .positions-of .result)
+later c = in-range _ _ (c .before .before .before .before .before .before .pre .0 .0) (c .before .before .before .first-of .ensures _) (c .before .before .positions-of .ensures _) _ (c .loop-test .taken)
 
 -- the pair's rows, by the distance that was found
-pair : (c : tie.After-distance-of Inv-loop μ-loop) → conflicts (lineOf (c .before .before .before .before .before .before .before .before .before .args .line .now) (c .before .before .before .before .before .before .before .before .before .args .clue .now)) (c .before .before .before .before .before .before .before .before .before .args .a) (c .before .before .loop .b) ≡ rowsFrom (c .before .before .before .before .before .wide .result + c .before .before .before .before .before .before .before .before .before .args .a * c .before .before .before .wide2 .result) (c .before .before .before .before .before .wide .result + c .before .before .loop .b * c .before .before .before .wide2 .result) (c .distance-of .result) (c .before .before .before .wide2 .result)
-pair c = pair-is _ _ (c .before .before .before .before .before .before .before .before .before .pre .0 .0) (c .before .before .before .before .before .wide .ensures) (c .before .before .before .wide2 .ensures) _ _ (c .distance-of .ensures .0)
+pair : (c : tie.After-distance-of Inv-loop μ-loop) → conflicts (lineOf (c .before .before .before .before .before .before .before .args .line .now) (c .before .before .before .before .before .before .before .args .clue .now)) (c .before .before .before .before .before .before .before .args .a) (c .before .before .loop .b) ≡ rowsFrom (c .before .before .before .before .first-of .result + c .before .before .before .before .before .before .before .args .a * c .before .before .before .positions-of .result) (c .before .before .before .before .first-of .result + c .before .before .loop .b * c .before .before .before .positions-of .result) (c .distance-of .result) (c .before .before .before .positions-of .result)
+pair c = pair-is _ _ (c .before .before .before .before .before .before .before .pre .0 .0) (c .before .before .before .before .first-of .ensures _) (c .before .before .before .positions-of .ensures _) _ _ (c .distance-of .ensures .0)
 
 pub later-clauses-spec : {M : Type 1} → statement M
 later-clauses-spec =
@@ -34,13 +34,11 @@ later-clauses-spec =
     (tie.spec
     Inv-loop
     μ-loop
-    (λ c. search needs)
     (λ c κs. search needs)
-    (λ c. search needs)
     (λ c κs. search needs)
-    (λ c. omega (arith, c .before .before .before .before .before .before .pre .1 .0))
-    (λ c. later-first _ _ (c .before .before .before .before .before .before .pre .0 .0) _ _ _ (c .before .before .before .before .before .before .pre .1 .1))
-    (λ c κs. (c .before .before .before .before .before .before .before .before .pre .0 .0, c .before .before .before .before .before .before .before .before .pre .0 .1, omega (arith, c .before .loop .inv .low), c .loop-test .taken))
+    (λ c. omega (arith, c .before .before .before .before .pre .1 .0))
+    (λ c. later-first _ _ (c .before .before .before .before .pre .0 .0) _ _ _ (c .before .before .before .before .pre .1 .1))
+    (λ c κs. (c .before .before .before .before .before .before .pre .0 .0, c .before .before .before .before .before .before .pre .0 .1, omega (arith, c .before .loop .inv .low), c .loop-test .taken))
     (λ c. omega (arith, earlier (c .before)))
     (λ c. omega (arith, earlier (c .before)))
     (λ c. omega (arith, later (c .before)))
@@ -50,4 +48,4 @@ later-clauses-spec =
     (λ c. search needs)
     (λ c. from-next (c .before .before .before .before .before .loop .inv) (c .before .before .before .before .loop-test .taken) (rw (pair (c .before .before .before)) (c .before .put-rows .ensures)))
     (λ c. from-kept (c .before .loop .inv))
-    (λ c. later-done _ _ (c .before .before .before .before .before .before .before .before .pre .0 .0) _ (c .before .loop .inv) (c .loop-test .left)))
+    (λ c. later-done _ _ (c .before .before .before .before .before .before .pre .0 .0) _ (c .before .loop .inv) (c .loop-test .left)))

@@ -1,12 +1,13 @@
 use mathlib.Core.Path.{_≡_}
 use Prim.Native.Nat.{_+_, _-_, _≤_}
 use lib.ListN.{length, length-set}
+use Rattle.boards.specs.Layout.{lineSize}
 use borrow.Author.Needs.{needs}
 use Rattle.replay_inner.proofs.puzzle.list_line.Statement.{statement}
 use Rattle.replay_inner.proofs.puzzle.list_line.Tie as tie
 
 abbrev Inv-loop : tie.InvT-loop
-Inv-loop words table from out₀ at begin blocks next₀ i₀ i-end out next i = (i-end ≤ from + 68) × ((next ≤ length out) × (length out ≡ length out₀))
+Inv-loop words table from out₀ at begin blocks next₀ i₀ i-end out next i = (i-end ≤ from + lineSize) × ((next ≤ length out) × (length out ≡ length out₀))
 
 abbrev μ-loop : tie.MeasureT-loop
 μ-loop words table from out₀ at begin blocks next₀ i₀ i-end out next i = i-end - i
