@@ -2,7 +2,7 @@
 use mathlib.Core.Path.{_≡_, refl, sym, ap, _∙_}
 use mathlib.Core.Bool.{cond}
 use mathlib.Core.List.{List, _++_}
-use Prim.Native.Nat.{ℕ, _+_, _-_, _*_, _<_}
+use Prim.Native.Nat.{ℕ, _+_, _-_, _<_}
 use native.Mathlib.Omega.{arith}
 use native.Mathlib.Nat.{add-zero, zero-add}
 use lib.Dec.{eqb}
@@ -20,10 +20,10 @@ use Rattle.refusals.proofs.Answering.{handed-up, handed-on, accepted-passed, to
 use Rattle.puzzles.specs.Puzzle.{Puzzle, width, height, lines, linesWords, cellsWords, puzzleWords, rowsAt, cellsAt}
 use Rattle.puzzles.specs.Walk.{readPuzzle}
 use Rattle.puzzles.specs.Checks.{colors, columnChecks, solvedChecks, spaces, meaningChecks, puzzle, puzzleChecks, Sectioned}
-use Rattle.boards.specs.declared.table.Parts.{Parts}
-use Rattle.boards.specs.Table.{beginAt, Laid, Found}
+use Rattle.tables.specs.declared.table.Parts.{Parts}
+use Rattle.tables.specs.Table.{beginAt, Found}
 use Rattle.puzzles.proofs.Accepting.{Walked, walked-sections, size-some}
-use Rattle.boards.proofs.Beginning.{begin-next, begin-rows, begin-cells}
+use Rattle.tables.proofs.Beginning.{begin-next, begin-rows, begin-cells}
 
 module _ (z : Puzzle) where
   first-word : getD (puzzleWords z) 0 0 ≡ width z

@@ -1,5 +1,2 @@
-pub mod Beginning
-pub mod Laying
-pub mod Finding
 pub mod Coloring
 pub mod Boards

@@ -10,7 +10,7 @@ use Rattle.boards.specs.declared.board.Reading.the-variants.{Read, Refus
 use Rattle.puzzles.specs.Puzzle.{Puzzle, width, height, lines, rowsAt, cellsAt}
 use Rattle.puzzles.specs.Checks.{colors, puzzleChecks, puzzle}
 use Rattle.puzzles.specs.Firsts.{firstAt}
-use Rattle.boards.specs.Table.{Laid}
+use Rattle.tables.specs.Table.{Laid}
 
 -- the board's numbers are the puzzle's
 pub record Stands (b : Board) (z : Puzzle) : Type 0 where

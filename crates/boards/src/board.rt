@@ -2,13 +2,13 @@
 use crate::colors::check_cells;
 use crate::colors::check_columns;
 use crate::colors::row_colors;
-use crate::table::find_line;
-use crate::table::lay_lines;
-use crate::table::next_first;
 use lists::wide;
 use puzzles::check::check_sections;
 use refusals::Answer;
 use refusals::Refusal;
+use tables::table::find_line;
+use tables::table::lay_lines;
+use tables::table::next_first;
 ghost use mathlib.Core.Path.{_≡_};
 ghost use Prim.Native.Nat.{_≤_};
 ghost use lib.ListN.{length};
@@ -16,8 +16,8 @@ ghost use Rattle.refusals.specs.Told.{told};
 ghost use Rattle.refusals.specs.Verdict.{accepted, andThen, passed};
 ghost use Rattle.puzzles.specs.Puzzle as P;
 ghost use Rattle.puzzles.specs.Checks as C;
-ghost use Rattle.boards.specs.Layout.{tableSize};
-ghost use Rattle.boards.specs.Table.{Laid};
+ghost use Rattle.tables.specs.Layout.{tableSize};
+ghost use Rattle.tables.specs.Table.{Laid};
 ghost use Rattle.boards.specs.Reading.{Stands, Reads};
 
 // Where the rows and the cells begin, the first cell variable, and the colour set as a mask.

@@ -1,10 +1,10 @@
 // The colour set K, as a mask, and the checks against it.
-use crate::table::find_line;
 use bits::mask::has;
 use bits::mask::solved;
 use bits::mask::with;
 use refusals::Answer;
 use refusals::Refusal;
+use tables::table::find_line;
 ghost use mathlib.Core.Path.{_≡_};
 ghost use Prim.Native.Nat.{_≤_};
 ghost use lib.ListN.{length};
@@ -13,8 +13,8 @@ ghost use Rattle.lines.specs.Clue.{blocks};
 ghost use Rattle.puzzles.specs.Puzzle as P;
 ghost use Rattle.puzzles.specs.Colors.{withColors, known, offSolved};
 ghost use Rattle.puzzles.specs.Checks as C;
-ghost use Rattle.boards.specs.Layout.{tableSize};
-ghost use Rattle.boards.specs.Table.{Laid};
+ghost use Rattle.tables.specs.Layout.{tableSize};
+ghost use Rattle.tables.specs.Table.{Laid};
 
 // The mask, with the colours of a clue's blocks.
 fn with_colors(mask: u32, clue: &[u32]) -> u32

@@ -13,9 +13,9 @@ use Rattle.literals.specs.Literals.{IsVariable}
 use Rattle.sections.specs.Sections.{Clause, clausesWords, clauseWords}
 use Rattle.puzzles.specs.Puzzle.{lines}
 use Rattle.puzzles.specs.Checks.{puzzle}
-use Rattle.boards.specs.declared.table.Parts.{Parts}
-use Rattle.boards.specs.Layout.{lineSize}
-use Rattle.boards.specs.Table.{Found}
+use Rattle.tables.specs.declared.table.Parts.{Parts}
+use Rattle.tables.specs.Layout.{lineSize}
+use Rattle.tables.specs.Table.{Found}
 use Rattle.numbering.specs.Variables.{lineAt}
 use Rattle.numbering.specs.Tables.{Ready, lineOf}
 use Rattle.numbering.proofs.Parts.{ready-sound, found-line}

@@ -1,12 +1,12 @@
 // The positions of a line's blocks that cover a cell.
-use boards::layout::LINE_SIZE;
-use boards::table::find_line;
 use lines::meet::Run;
 use lines::meet::behind;
 use lines::meet::covers;
-use numbering::line::run_at;
 use numbering::line::first_of;
 use numbering::line::positions_of;
+use numbering::line::run_at;
+use tables::layout::LINE_SIZE;
+use tables::table::find_line;
 ghost use mathlib.Core.Path.{_≡_};
 ghost use Prim.Native.Nat.{_+_, _≤_, _<_};
 ghost use lib.ListN.{length, take};
@@ -16,7 +16,7 @@ ghost use Rattle.lines.specs.Clue.{end};
 ghost use Rattle.lines.specs.Runs.{run};
 ghost use Rattle.puzzles.specs.Puzzle as P;
 ghost use Rattle.puzzles.specs.Checks.{puzzle};
-ghost use Rattle.boards.specs.Layout.{lineSize};
+ghost use Rattle.tables.specs.Layout.{lineSize};
 ghost use Rattle.numbering.specs.Variables.{lineAt};
 ghost use Rattle.numbering.specs.Tables.{lineOf, Sound, Ready};
 ghost use Rattle.cells.specs.Cells.{covering};

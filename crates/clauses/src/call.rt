@@ -3,15 +3,15 @@ use crate::buffer::write_sections;
 use boards::board::Board;
 use boards::board::Reading;
 use boards::board::read_puzzle;
-use boards::layout::TABLE_SIZE;
 use counts::total::count_all;
 use refusals::Answer;
 use refusals::Refusal;
+use tables::layout::TABLE_SIZE;
 ghost use Prim.Native.Nat.{_≤_};
 ghost use lib.ListN.{length};
 ghost use Rattle.refusals.specs.Outcome.{Answers};
 ghost use Rattle.puzzles.specs.Checks.{puzzle, puzzleChecks};
-ghost use Rattle.boards.specs.Layout.{tableSize};
+ghost use Rattle.tables.specs.Layout.{tableSize};
 ghost use Rattle.boards.specs.Reading.{Held};
 ghost use Rattle.counts.specs.Families.{buffer};
 

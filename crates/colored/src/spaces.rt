@@ -1,13 +1,13 @@
 // Family 8 of a cell: where a position of a colour covers it, the cell has the colour. Each position is tested where it is found.
 use crate::side::pick;
-use boards::layout::LINE_SIZE;
-use boards::table::find_line;
 use lines::meet::Run;
 use lines::meet::behind;
 use lines::meet::covers;
-use numbering::line::run_at;
 use numbering::line::first_of;
 use numbering::line::positions_of;
+use numbering::line::run_at;
+use tables::layout::LINE_SIZE;
+use tables::table::find_line;
 use truth::Tested;
 use truth::on;
 ghost use mathlib.Core.Path.{_≡_};
@@ -19,7 +19,7 @@ ghost use Rattle.lines.specs.Clue.{end};
 ghost use Rattle.lines.specs.Runs.{run};
 ghost use Rattle.puzzles.specs.Puzzle as P;
 ghost use Rattle.puzzles.specs.Checks.{puzzle};
-ghost use Rattle.boards.specs.Layout.{lineSize};
+ghost use Rattle.tables.specs.Layout.{lineSize};
 ghost use Rattle.numbering.specs.Variables.{lineAt, variables};
 ghost use Rattle.numbering.specs.Tables.{lineOf, Sound, Ready};
 ghost use Rattle.truth.specs.Truth.{value};

@@ -1,16 +1,16 @@
 // What is counted of the lines.
 use crate::measure::Measure;
-use boards::layout::LINE_SIZE;
-use boards::table::find_line;
 use lists::wide;
 use numbering::line::distance_of;
 use numbering::line::positions_of;
+use tables::layout::LINE_SIZE;
+use tables::table::find_line;
 ghost use mathlib.Core.Path.{_≡_};
 ghost use Prim.Native.Nat.{_+_, _-_, _*_, _/_, _≤_, _<_};
 ghost use lib.ListN.{length};
 ghost use Rattle.puzzles.specs.Puzzle.{lines};
 ghost use Rattle.puzzles.specs.Checks.{puzzle};
-ghost use Rattle.boards.specs.Layout.{lineSize};
+ghost use Rattle.tables.specs.Layout.{lineSize};
 ghost use Rattle.numbering.specs.Variables.{lineAt, many};
 ghost use Rattle.numbering.specs.Tables.{Ready, Sound, lineOf};
 ghost use Rattle.counts.specs.Formulas.{cellsIn, overlapAt, overlapIn, measured, overLines};

@@ -14,7 +14,7 @@ use Rattle.literals.specs.Literals.{largest}
 use Rattle.sections.specs.Sections.{clauseWords}
 use Rattle.truth.specs.Truth.{Assignment}
 use Rattle.puzzles.specs.Checks.{puzzle}
-use Rattle.boards.specs.Layout.{tableSize}
+use Rattle.tables.specs.Layout.{tableSize}
 use Rattle.boards.specs.Reading.{Held}
 use Rattle.boards.specs.declared.board.Board.{Board}
 use Rattle.numbering.specs.Variables as N

@@ -14,12 +14,12 @@ use Rattle.puzzles.specs.Puzzle.{Puzzle, lines, clueAt}
 use Rattle.puzzles.specs.Checks.{puzzle}
 use Rattle.puzzles.specs.Good.{Good}
 use Rattle.puzzles.proofs.Accepting.{accepted-is, accepted-sectioned}
-use Rattle.boards.specs.Layout.{lineSize, tableSize, firstWord, positionsWord, startWord}
-use Rattle.boards.specs.Table.{LineLaid, Found}
-use Rattle.boards.specs.declared.table.Parts.{Parts}
+use Rattle.tables.specs.Layout.{lineSize, tableSize, firstWord, positionsWord, startWord}
+use Rattle.tables.specs.Table.{LineLaid, Found}
+use Rattle.tables.specs.declared.table.Parts.{Parts}
 use Rattle.boards.specs.Reading.{Held}
 use Rattle.boards.specs.declared.board.Board.{Board}
-use Rattle.boards.proofs.Finding.{laid-first, laid-positions, laid-start}
+use Rattle.tables.proofs.Finding.{laid-first, laid-positions, laid-start}
 use Rattle.numbering.specs.Variables.{lineAt}
 use Rattle.numbering.specs.Tables.{Ready, lineOf, Sound}
 use Rattle.numbering.proofs.Bounds.{line-sound}

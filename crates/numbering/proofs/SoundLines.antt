@@ -12,7 +12,7 @@ use Rattle.lines.specs.Clue.{end, gap, minSpace}
 use Rattle.lines.specs.Arrangement.{at, clash, distance, Meets}
 use Rattle.lines.proofs.Packing.{base-gap, packed-length, sizes-within, blocks-within}
 use Rattle.lines.proofs.Moving.{positions-some, positions-space, moved-within, packed-clear, packed-meets}
-use Rattle.boards.specs.Layout.{firstWord, positionsWord, startWord}
+use Rattle.tables.specs.Layout.{firstWord, positionsWord, startWord}
 use Rattle.numbering.specs.Variables.{Line, many, placedAt, firstOf}
 use Rattle.numbering.specs.Tables.{lineOf, Sound}
 

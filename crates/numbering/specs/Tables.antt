@@ -8,8 +8,8 @@ use Rattle.lines.specs.Clue.{Block, gap, packed, minSpace, positions}
 use Rattle.lines.specs.Arrangement.{Proper}
 use Rattle.puzzles.specs.Checks.{puzzle, Sectioned}
 use Rattle.puzzles.specs.Good.{Good}
-use Rattle.boards.specs.Layout.{tableSize, firstWord, positionsWord, startWord}
-use Rattle.boards.specs.Table.{Laid}
+use Rattle.tables.specs.Layout.{tableSize, firstWord, positionsWord, startWord}
+use Rattle.tables.specs.Table.{Laid}
 use Rattle.numbering.specs.Variables.{Line, many}
 
 -- words that were accepted, with the table of their lines

@@ -1,10 +1,10 @@
 // What is read of a line, given its words in the table and the words of its clue.
-use boards::layout::FIRST;
-use boards::layout::POSITIONS;
-use boards::layout::STARTS;
 use lines::meet::Run;
 use lines::meet::distance;
 use lists::wide;
+use tables::layout::FIRST;
+use tables::layout::POSITIONS;
+use tables::layout::STARTS;
 ghost use mathlib.Core.Path.{_≡_};
 ghost use mathlib.Core.List.{List};
 ghost use Prim.Native.Nat.{ℕ, _/_, _≤_, _<_};
@@ -13,7 +13,7 @@ ghost use Rattle.lines.specs.Clue.{gap};
 ghost use Rattle.lines.specs.Arrangement.{at, Meets};
 ghost use Rattle.lines.specs.Arrangement as Arrangement;
 ghost use Rattle.lines.specs.Runs.{run};
-ghost use Rattle.boards.specs.Layout.{lineSize};
+ghost use Rattle.tables.specs.Layout.{lineSize};
 ghost use Rattle.numbering.specs.Tables.{Sound, lineOf};
 
 // Its first variable.

@@ -1,8 +1,8 @@
 // What a model makes of a section of one rule: the lines one after another, found through the table.
 use crate::line::test_rule;
-use boards::layout::LINE_SIZE;
-use boards::table::find_line;
 use placement::rule::Rule;
+use tables::layout::LINE_SIZE;
+use tables::table::find_line;
 use truth::Tested;
 ghost use mathlib.Core.Path.{_≡_};
 ghost use Prim.Native.Nat.{_+_, _≤_, _<_};

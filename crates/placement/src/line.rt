@@ -9,7 +9,7 @@ ghost use Prim.Native.Nat.{_+_, _≤_};
 ghost use lib.ListN.{length};
 ghost use Rattle.lists.specs.Wrote.{Wrote};
 ghost use Rattle.sections.specs.Sections.{clausesWords};
-ghost use Rattle.boards.specs.Layout.{lineSize};
+ghost use Rattle.tables.specs.Layout.{lineSize};
 ghost use Rattle.numbering.specs.Tables.{Sound, lineOf};
 ghost use Rattle.placement.specs.Placement.{blockPositions, blockOnce, ruled};
 

@@ -8,7 +8,7 @@ ghost use lib.ListN.{length};
 ghost use Rattle.lists.specs.Wrote.{Wrote};
 ghost use Rattle.literals.specs.Literals.{largest};
 ghost use Rattle.sections.specs.Sections.{clausesWords};
-ghost use Rattle.boards.specs.Layout.{lineSize};
+ghost use Rattle.tables.specs.Layout.{lineSize};
 ghost use Rattle.numbering.specs.Tables.{Sound, lineOf};
 ghost use Rattle.placement.specs.Placement.{nonOverlap};
 ghost use Rattle.placement.specs.PairRows.{rowsFrom, laterPairs};

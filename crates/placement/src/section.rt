@@ -1,9 +1,9 @@
 // A section of one rule: its clause count, then what it says of the lines, one after another.
 use crate::line::line_clauses;
 use crate::rule::Rule;
-use boards::layout::LINE_SIZE;
-use boards::table::find_line;
 use literals::count_word;
+use tables::layout::LINE_SIZE;
+use tables::table::find_line;
 ghost use mathlib.Core.Path.{_≡_};
 ghost use Prim.Native.Nat.{_+_, _≤_, _<_};
 ghost use lib.ListN.{length};

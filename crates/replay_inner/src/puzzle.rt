@@ -1,16 +1,16 @@
 // What is read of a puzzle's words: its board, and what the table has of each line.
 use boards::board::Board;
 use boards::board::Reading;
-use boards::layout::LINE_SIZE;
-use boards::layout::STARTS;
-use boards::layout::TABLE_SIZE;
 use cases::number::at_most;
 use cases::number::index;
 use cases::number::low;
 use shows::show::show;
+use tables::layout::LINE_SIZE;
+use tables::layout::STARTS;
+use tables::layout::TABLE_SIZE;
 ghost use Prim.Native.Nat.{_≤_};
 ghost use lib.ListN.{length};
-ghost use Rattle.boards.specs.Layout.{tableSize};
+ghost use Rattle.tables.specs.Layout.{tableSize};
 
 pub fn answer(words: &[u32]) {
     let mut table = [0u32; TABLE_SIZE];

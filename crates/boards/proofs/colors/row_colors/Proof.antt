@@ -2,7 +2,7 @@ use Rattle.puzzles.proofs.Accepting.{sizes}
 use Rattle.boards.proofs.Coloring.{Joining, joining-first, joining-next, joined-none, joined-some}
 use Rattle.puzzles.specs.Checks as C
 use Rattle.puzzles.specs.Puzzle as P
-use Prim.Native.Nat.{_+_, _-_, _≤_, _<_}
+use Prim.Native.Nat.{_+_, _-_, _<_}
 use native.Mathlib.Omega.{arith}
 use mathlib.Core.Path.{_≡_, refl}
 use borrow.Author.Needs.{needs}

@@ -19,14 +19,14 @@ find-covering-spec =
     (λ c. search needs)
     (λ c. search needs)
     (λ c κs.
-      let R = c .before .before .before .before .before .before .before .pre .0 in
-      let h = c .before .before .before .before .before .before .before .pre .1 .0 in
-      let F = c .before .before .before .find-line .ensures in
-      (found-sound _ _ R _ h F, (found-long _ _ R _ h F, c .before .before .before .before .before .before .before .pre .1 .1)))
+    let R = c .before .before .before .before .before .before .before .pre .0 in
+    let h = c .before .before .before .before .before .before .before .pre .1 .0 in
+    let F = c .before .before .before .find-line .ensures in
+    (found-sound _ _ R _ h F, (found-long _ _ R _ h F, c .before .before .before .before .before .before .before .pre .1 .1)))
     (λ c. search needs)
     (λ c.
-      let R = c .before .before .before .before .before .before .before .before .before .before .pre .0 in
-      let h = c .before .before .before .before .before .before .before .before .before .before .pre .1 .0 in
-      let F = c .before .before .before .before .before .before .find-line .ensures in
-      let w = c .before .before .covering-positions .ensures in
-      (front-within R h F _ _ w (c .before .before .before .before .before .before .before .before .before .before .pre .1 .1) (c .before .before .covering-positions .kept .1 .1 .1 .1 .0), found-is R h F _ _ w)))
+    let R = c .before .before .before .before .before .before .before .before .before .before .pre .0 in
+    let h = c .before .before .before .before .before .before .before .before .before .before .pre .1 .0 in
+    let F = c .before .before .before .before .before .before .find-line .ensures in
+    let w = c .before .before .covering-positions .ensures in
+    (front-within R h F _ _ w (c .before .before .before .before .before .before .before .before .before .before .pre .1 .1) (c .before .before .covering-positions .kept .1 .1 .1 .1 .0), found-is R h F _ _ w)))

@@ -19,9 +19,9 @@ test-line-spec =
     (λ c. search needs)
     (λ c. search needs)
     (λ c κs.
-      let R = c .before .before .before .before .before .before .pre .0 in
-      let h = c .before .before .before .before .before .before .pre .1 .0 .0 in
-      let F = c .before .before .find-line .ensures in
-      let e = found-line _ _ R _ h F in
-      ((found-sound _ _ R _ h F, found-long _ _ R _ h F), ((rw e (line-within (c .before .before .before .before .before .before .args .model .now) _ (c .before .before .before .before .before .before .pre .1 .0 .1) _ h), c .before .before .before .before .before .before .pre .1 .0 .2), rw e (c .before .before .before .before .before .before .pre .1 .1))))
+    let R = c .before .before .before .before .before .before .pre .0 in
+    let h = c .before .before .before .before .before .before .pre .1 .0 .0 in
+    let F = c .before .before .find-line .ensures in
+    let e = found-line _ _ R _ h F in
+    ((found-sound _ _ R _ h F, found-long _ _ R _ h F), ((rw e (line-within (c .before .before .before .before .before .before .args .model .now) _ (c .before .before .before .before .before .before .pre .1 .0 .1) _ h), c .before .before .before .before .before .before .pre .1 .0 .2), rw e (c .before .before .before .before .before .before .pre .1 .1))))
     (λ c. rw (found-line _ _ (c .before .before .before .before .before .before .before .pre .0) _ (c .before .before .before .before .before .before .before .pre .1 .0 .0) (c .before .before .before .find-line .ensures)) at (c .test-blocks .ensures)))

@@ -18,8 +18,8 @@ count-line-spec =
     (λ c. search needs)
     (λ c. search needs)
     (λ c κs.
-      let R = c .before .before .before .before .before .pre .0 in
-      let h = c .before .before .before .before .before .pre .1 in
-      let F = c .before .before .find-line .ensures in
-      (found-sound _ _ R _ h F, found-long _ _ R _ h F))
+    let R = c .before .before .before .before .before .pre .0 in
+    let h = c .before .before .before .before .before .pre .1 in
+    let F = c .before .before .find-line .ensures in
+    (found-sound _ _ R _ h F, found-long _ _ R _ h F))
     (λ c. rw (found-line _ _ (c .before .before .before .before .before .before .pre .0) _ (c .before .before .before .before .before .before .pre .1) (c .before .before .before .find-line .ensures)) at (c .line-count .ensures)))

@@ -3,7 +3,7 @@ use native.Mathlib.Omega.{arith}
 use Rattle.truth.specs.Truth.{value}
 use Rattle.truth.proofs.Testing.{Testing, testing-first, testing-room, testing-stop, testing-next, testing-done}
 use Rattle.puzzles.specs.Checks.{puzzle}
-use Rattle.boards.proofs.Laying.{lines-most}
+use Rattle.tables.proofs.Laying.{lines-most}
 use Rattle.numbering.specs.Variables.{lineAt}
 use Rattle.placement.specs.Placement.{ruled, ofLines}
 use Rattle.placement.proofs.SectionLoops.{lines-are}

@@ -18,9 +18,9 @@ write-line-spec =
     (λ c. search needs)
     (λ c. search needs)
     (λ c κs.
-      let R = c .before .before .before .before .before .before .pre .0 .0 in
-      let h = c .before .before .before .before .before .before .pre .0 .1 in
-      let F = c .before .before .before .find-line .ensures in
-      ((found-sound _ _ R _ h F, found-long _ _ R _ h F), rw (found-line _ _ R _ h F) (c .before .before .before .before .before .before .pre .1)))
+    let R = c .before .before .before .before .before .before .pre .0 .0 in
+    let h = c .before .before .before .before .before .before .pre .0 .1 in
+    let F = c .before .before .before .find-line .ensures in
+    ((found-sound _ _ R _ h F, found-long _ _ R _ h F), rw (found-line _ _ R _ h F) (c .before .before .before .before .before .before .pre .1)))
     (λ c. search needs)
     (λ c. rw (found-line _ _ (c .before .before .before .before .before .before .before .before .pre .0 .0) _ (c .before .before .before .before .before .before .before .before .pre .0 .1) (c .before .before .before .before .before .find-line .ensures)) at (c .before .line-clauses .ensures)))

@@ -9,7 +9,7 @@ use Rattle.sections.specs.Sections.{clausesWords}
 use Rattle.puzzles.specs.Checks.{puzzle}
 use Rattle.numbering.specs.Variables.{lineAt}
 use Rattle.placement.specs.Placement.{ruled}
-use Rattle.boards.proofs.Laying.{lines-most}
+use Rattle.tables.proofs.Laying.{lines-most}
 use Rattle.sections.proofs.Section.{count-room, count-first, count-done}
 use Rattle.placement.proofs.SectionLoops.{lines-are}
 use borrow.Author.Needs.{needs}

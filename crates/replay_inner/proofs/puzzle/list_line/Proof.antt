@@ -1,7 +1,7 @@
 use mathlib.Core.Path.{_≡_}
 use Prim.Native.Nat.{_+_, _-_, _≤_}
 use lib.ListN.{length, length-set}
-use Rattle.boards.specs.Layout.{lineSize}
+use Rattle.tables.specs.Layout.{lineSize}
 use borrow.Author.Needs.{needs}
 use Rattle.replay_inner.proofs.puzzle.list_line.Statement.{statement}
 use Rattle.replay_inner.proofs.puzzle.list_line.Tie as tie

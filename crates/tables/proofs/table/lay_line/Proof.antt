@@ -1,4 +1,4 @@
-use Rattle.boards.proofs.Laying.{line-fine, lay-kept, lay-fits, lay-wrote, lay-positions, line-vars, Room, room, lay-refused}
+use Rattle.tables.proofs.Laying.{line-fine, lay-kept, lay-fits, lay-wrote, lay-positions, line-vars, Room, room, lay-refused}
 use Rattle.puzzles.specs.Firsts.{positionsAt}
 use Rattle.lines.proofs.Checks.{size-within}
 use Rattle.refusals.specs.Verdict.{accepted}
@@ -10,8 +10,8 @@ use lib.ListN.{length}
 use Prim.Native.Nat.{_*_}
 use native.Mathlib.Omega.{arith}
 use borrow.Author.Needs.{needs}
-use Rattle.boards.proofs.table.lay_line.Statement.{statement}
-use Rattle.boards.proofs.table.lay_line.Tie as tie
+use Rattle.tables.proofs.table.lay_line.Statement.{statement}
+use Rattle.tables.proofs.table.lay_line.Tie as tie
 
 room-is : (c : tie.Start) → Room (c .args .words .now) (c .pre .0) (c .args .l) (c .pre .1 .1 .0) {at = c .args .at} {first = c .args .first} (c .pre .1 .0)
 room-is c = room _ (c .pre .0) _ (c .pre .1 .1 .0) {at = c .args .at} {first = c .args .first} (c .pre .1 .0)

@@ -14,11 +14,11 @@ use Rattle.lines.proofs.ClueWords.{starts-positions, starts-start}
 use Rattle.puzzles.specs.Puzzle.{Puzzle, lines, clueAt, lengthAt}
 use Rattle.puzzles.specs.Checks.{puzzle, Sectioned}
 use Rattle.puzzles.specs.Firsts.{firstAt, positionsAt}
-use Rattle.boards.specs.declared.table.Parts.{Parts}
-use Rattle.boards.specs.Layout.{lineSize, tableSize, firstWord, positionsWord, startWord}
-use Rattle.boards.specs.Table.{beginAt, laidWords, LineLaid, Laid, Found}
-use Rattle.boards.proofs.Beginning.{Here}
-use Rattle.boards.proofs.Laying.{line-size, line-fine, line-here, lines-most, line-vars, first-most}
+use Rattle.tables.specs.declared.table.Parts.{Parts}
+use Rattle.tables.specs.Layout.{lineSize, tableSize, firstWord, positionsWord, startWord}
+use Rattle.tables.specs.Table.{beginAt, laidWords, LineLaid, Laid, Found}
+use Rattle.tables.proofs.Beginning.{Here}
+use Rattle.tables.proofs.Laying.{line-size, line-fine, line-here, lines-most, line-vars, first-most}
 
 module _ (z : Puzzle) (table : List ℕ) (l : ℕ) (L : LineLaid z table l) where
   laid-word : (i : ℕ) → i < length (laidWords z l) → getD table (lineSize * l + i) 0 ≡ getD (laidWords z l) i 0

@@ -1,4 +1,4 @@
-use Rattle.boards.proofs.Laying.{LayingLines, Room, room, line-length-is, laying-first, laying-short, laying-vars, laying-next, laying-done, laying-laid}
+use Rattle.tables.proofs.Laying.{LayingLines, Room, room, line-length-is, laying-first, laying-short, laying-vars, laying-next, laying-done, laying-laid}
 use Rattle.puzzles.proofs.Accepting.{walked-sections, size-some}
 use Rattle.lines.proofs.Checks.{size-within}
 use Rattle.puzzles.specs.Checks.{puzzle}
@@ -8,8 +8,8 @@ use Prim.Native.Nat.{_-_, _<_}
 use native.Mathlib.Omega.{arith}
 use mathlib.Core.Path.{_≡_, refl, _∙_}
 use borrow.Author.Needs.{needs}
-use Rattle.boards.proofs.table.lay_lines.Statement.{statement}
-use Rattle.boards.proofs.table.lay_lines.Tie as tie
+use Rattle.tables.proofs.table.lay_lines.Statement.{statement}
+use Rattle.tables.proofs.table.lay_lines.Tie as tie
 
 abbrev Inv-loop : tie.InvT-loop
 Inv-loop words width height table₀ at₀ first₀ l₀ l-end table at first l = (l-end ≡ P.lines (puzzle words)) × ((length table ≡ length table₀) × LayingLines (puzzle words) table l at first)

@@ -1,8 +1,8 @@
 use native.Mathlib.Nat.{add-zero}
 use borrow.Author.Tests.{eq-eqb, ne-eqb}
 use borrow.Author.Needs.{needs}
-use Rattle.boards.proofs.table.next_begin.Statement.{statement}
-use Rattle.boards.proofs.table.next_begin.Tie as tie
+use Rattle.tables.proofs.table.next_begin.Statement.{statement}
+use Rattle.tables.proofs.table.next_begin.Tie as tie
 
 pub next-begin-spec : {M : Type 1} → statement M
 next-begin-spec = tie.close (tie.spec

@@ -14,7 +14,7 @@ use Rattle.lists.proofs.Eaches.{flat-append}
 use Rattle.lines.specs.Clue.{Block, words}
 use Rattle.lines.proofs.ClueWords.{words-length}
 use Rattle.puzzles.specs.Puzzle.{Puzzle, width, height, lines, clueWords, cluesWords, linesWords, cellsWords, puzzleWords, rowsAt, cellsAt, clueAt}
-use Rattle.boards.specs.Table.{beginAt}
+use Rattle.tables.specs.Table.{beginAt}
 use Rattle.puzzles.proofs.Lines.{clue-column, clue-row}
 
 -- ---- clues one after another

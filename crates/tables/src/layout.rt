@@ -8,5 +8,7 @@ pub const TABLE_SIZE: usize = 128 * LINE_SIZE;
 
 // Which of a line's words is what. Where its clue begins is the first.
 pub const FIRST: usize = 1;
+
 pub const POSITIONS: usize = 2;
+
 pub const STARTS: usize = 4;

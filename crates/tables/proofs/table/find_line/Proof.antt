@@ -1,9 +1,9 @@
 use native.Mathlib.Omega.{arith}
-use Rattle.boards.proofs.Laying.{lines-most}
-use Rattle.boards.proofs.Finding.{count-within, found}
+use Rattle.tables.proofs.Laying.{lines-most}
+use Rattle.tables.proofs.Finding.{count-within, found}
 use borrow.Author.Needs.{needs}
-use Rattle.boards.proofs.table.find_line.Statement.{statement}
-use Rattle.boards.proofs.table.find_line.Tie as tie
+use Rattle.tables.proofs.table.find_line.Statement.{statement}
+use Rattle.tables.proofs.table.find_line.Tie as tie
 
 pub find-line-spec : {M : Type 1} → statement M
 find-line-spec =

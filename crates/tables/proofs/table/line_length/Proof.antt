@@ -1,6 +1,6 @@
 use borrow.Author.Tests.{lt-ltb, le-ltb}
-use Rattle.boards.proofs.table.line_length.Statement.{statement}
-use Rattle.boards.proofs.table.line_length.Tie as tie
+use Rattle.tables.proofs.table.line_length.Statement.{statement}
+use Rattle.tables.proofs.table.line_length.Tie as tie
 
 pub line-length-spec : {M : Type 1} → statement M
 line-length-spec = tie.close (tie.spec

@@ -1,8 +1,8 @@
 use native.Mathlib.Omega.{arith}
-use Rattle.boards.proofs.Finding.{found-next, found-few}
+use Rattle.tables.proofs.Finding.{found-next, found-few}
 use borrow.Author.Needs.{needs}
-use Rattle.boards.proofs.table.next_first.Statement.{statement}
-use Rattle.boards.proofs.table.next_first.Tie as tie
+use Rattle.tables.proofs.table.next_first.Statement.{statement}
+use Rattle.tables.proofs.table.next_first.Tie as tie
 
 pub next-first-spec : {M : Type 1} → statement M
 next-first-spec =

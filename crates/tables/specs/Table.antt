@@ -11,8 +11,8 @@ use Rattle.lines.specs.Calls.{startsWords}
 use Rattle.puzzles.specs.Firsts.{firstAt}
 use Rattle.puzzles.specs.Puzzle.{Puzzle, width, lines, cluesWords, clueAt, lengthAt}
 use Rattle.puzzles.specs.Checks.{puzzle}
-use Rattle.boards.specs.declared.table.Parts.{Parts}
-use Rattle.boards.specs.Layout.{lineSize}
+use Rattle.tables.specs.declared.table.Parts.{Parts}
+use Rattle.tables.specs.Layout.{lineSize}
 
 -- the word of the line's block count: the counts of the sections and the clues before it come first
 unfoldable pub beginAt : Puzzle → ℕ → ℕ

@@ -19,8 +19,8 @@ ghost use Rattle.lines.specs.Clue.{gap, minSpace};
 ghost use Rattle.puzzles.specs.Puzzle as P;
 ghost use Rattle.puzzles.specs.Checks.{puzzle, Sectioned, spaces};
 ghost use Rattle.puzzles.specs.Firsts.{firstAt, positionsAt};
-ghost use Rattle.boards.specs.Layout.{lineSize, tableSize};
-ghost use Rattle.boards.specs.Table.{laidWords, Laid, Found, Standing};
+ghost use Rattle.tables.specs.Layout.{lineSize, tableSize};
+ghost use Rattle.tables.specs.Table.{laidWords, Laid, Found, Standing};
 
 // The cells of line l.
 fn line_length(l: usize, width: usize, height: usize) -> usize

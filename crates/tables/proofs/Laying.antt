@@ -28,10 +28,10 @@ use Rattle.lines.proofs.ClueWords.{starts-size, starts-positions, positions-bou
 use Rattle.puzzles.specs.Puzzle.{Puzzle, width, height, lines, clueAt, lengthAt, cellsAt}
 use Rattle.puzzles.specs.Checks.{puzzle, Sectioned, spaces}
 use Rattle.puzzles.specs.Firsts.{firstAt, positionsAt}
-use Rattle.boards.specs.Layout.{lineSize, tableSize}
-use Rattle.boards.specs.Table.{beginAt, laidWords, LineLaid, Laid, Standing}
+use Rattle.tables.specs.Layout.{lineSize, tableSize}
+use Rattle.tables.specs.Table.{beginAt, laidWords, LineLaid, Laid, Standing}
 use Rattle.puzzles.proofs.Accepting.{walked-sections, FineLine, fine-lines}
-use Rattle.boards.proofs.Beginning.{Here, clue-here, begin-next, begin-cells}
+use Rattle.tables.proofs.Beginning.{Here, clue-here, begin-next, begin-cells}
 use Rattle.puzzles.proofs.Lines.{spaces-fit, spaces-short}
 
 pub line-size : (z : Puzzle) (l : ℕ) → length (laidWords z l) ≡ 4 + length (clueAt z l)

@@ -1,0 +1,3 @@
+pub mod Beginning
+pub mod Laying
+pub mod Finding
