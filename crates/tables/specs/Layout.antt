@@ -1,4 +1,4 @@
--- The layout of the table, as boards/src/layout.rt has it: the words of each line, and of up to 128 lines.
+-- The layout of the table, as src/layout.rt has it: the words of each line, and of up to 128 lines.
 use Prim.Native.Nat.{ℕ, _+_, _*_}
 
 abbrev pub lineSize : ℕ
