@@ -82,14 +82,8 @@ module _ (line clue : List ℕ) where
   of-run b h = getD-tab (length clue / 2) _ _ b (omega (arith, of-many))
 
   module _ (b : ℕ) (h : b < many (lineOf line clue)) where
-    pub of-start : getD line (startWord b) 0 ≡ at (lineOf line clue .runs) b .start
-    of-start = sym (ap (λ r. r .start) (of-run b h))
-
     pub of-size : getD clue (2 * b) 0 ≡ at (lineOf line clue .runs) b .size
     of-size = sym (ap (λ r. r .size) (of-run b h))
-
-    pub of-color : getD clue (2 * b + 1) 0 ≡ at (lineOf line clue .runs) b .color
-    of-color = sym (ap (λ r. r .color) (of-run b h))
 
   pub of-first : getD line firstWord 0 ≡ lineOf line clue .first
   unfolding lineOf
