@@ -1,3 +1,5 @@
 // The whole clause buffer of a puzzle.
+#![tactic(auto)]
+
 mod buffer;
 pub mod call;

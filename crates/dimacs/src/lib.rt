@@ -1,4 +1,6 @@
 // Clause words as DIMACS text.
+#![tactic(auto)]
+
 pub mod call;
 mod count;
 pub mod digits;

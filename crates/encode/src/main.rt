@@ -1,4 +1,6 @@
 // The base program: a puzzle's words from standard input, its DIMACS text or a refusal to standard output.
+#![tactic(auto)]
+
 ghost use Rattle.std.specs.Prelude.{◌≡◌, length};
 
 use encoding::program::encode;

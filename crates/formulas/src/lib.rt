@@ -1,4 +1,6 @@
 // Clause words of any kind: their check, and the walk over them.
+#![tactic(auto)]
+
 pub mod check;
 mod read;
 pub mod word;

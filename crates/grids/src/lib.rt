@@ -1,4 +1,6 @@
 // Grids of colour bytes: reading one into puzzle words.
+#![tactic(auto)]
+
 mod clues;
 mod masks;
 pub mod read;

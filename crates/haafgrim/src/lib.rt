@@ -1,4 +1,6 @@
 // The C entries: each hands its arguments to the crate that does the work, and the answer's number and place to the caller.
+#![tactic(auto)]
+
 ghost use Rattle.haafgrim.specs.Entries.{TwoPowers, FromTwoPowers, ReadLine, Starts, ColorRanges, ReadGrid, Transpose, Clauses, Counts, CheckModel, Blocking, Probes, Dimacs};
 
 #[unsafe(no_mangle)]

@@ -41,7 +41,7 @@ module _ (g : ℕ → ℕ → ℕ) where
   blocks_from : (s c : ℕ) (bs : List Block) → map block (packed_from g s c bs) ≡ bs
   unfolding packed_from
   blocks_from s c [] = refl
-  blocks_from s c (b ∷ bs) = ap (λ (l : List Block). b ∷ l) (blocks_from _ _ bs)
+  blocks_from s c (b ∷ bs) = ap (λ (l : List Block). b ∷ l) (blocks_from (s + g c b.color + b.size) b.color bs)
 
   next_from : (s c : ℕ) (bs : List Block) (b : ℕ) → suc b < length bs → let P = packed_from g s c bs in
       (at P (suc b)).start ≡ end (at P b) + g (at P b).color (at P (suc b)).color
@@ -49,7 +49,7 @@ module _ (g : ℕ → ℕ → ℕ) where
   next_from s c [] b h = absurd (omega arith)
   next_from s c (x ∷ []) b h = absurd (omega arith)
   next_from s c (x ∷ y ∷ bs) zero h = refl
-  next_from s c (x ∷ y ∷ bs) (suc b) h = next_from _ _ (y ∷ bs) b (omega arith)
+  next_from s c (x ∷ y ∷ bs) (suc b) h = next_from (s + g c x.color + x.size) x.color (y ∷ bs) b (omega arith)
 
   -- no space for no block
   pub min_space_none : (bs : List Block) → length bs ≡ 0 → min_space g bs ≡ 0

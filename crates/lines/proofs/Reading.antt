@@ -15,17 +15,22 @@ use Rattle.lines.specs.Arrangement.{Gap, Proper, Spaced, at, color_at}
 use Rattle.lines.proofs.Packing.{base_gap, block, block_at_lem}
 use Rattle.lines.proofs.Laying.{Laid, color_here, color_past, blank, paints, same_runs}
 
+-- the first of them is apart from the others too
+first_apart : (g : ℕ → ℕ → ℕ) (n : ℕ) (r : Run) (R : List Run) → Laid g n R
+    → ((b : ℕ) → b < length R → end r + g r.color (at R b).color ≤ (at R b).start)
+    → (a b : ℕ) → a < b → b < length (r ∷ R) → end (at (r ∷ R) a) + g (at (r ∷ R) a).color (at (r ∷ R) b).color ≤ (at (r ∷ R) b).start
+first_apart g n r R L h a zero m l = absurd (omega arith)
+first_apart g n r R L h zero (suc b) m l = h b (omega arith)
+first_apart g n r R L h (suc a) (suc b) m l = L.apart a b (omega arith) (omega arith)
+
 -- one more run before laid runs
 laid_first : (g : ℕ → ℕ → ℕ) (n : ℕ) (r : Run) (R : List Run) → 0 < r.size → 0 < r.color → end r ≤ n → Laid g n R
     → ((b : ℕ) → b < length R → end r + g r.color (at R b).color ≤ (at R b).start) → Laid g n (r ∷ R)
 laid_first g n r R k c e L h = record {
-  sized = λ b. elim b [ zero ↦ λ l. k | suc b ↦ λ l. L.sized b (omega arith) ];
-  colored = λ b. elim b [ zero ↦ λ l. c | suc b ↦ λ l. L.colored b (omega arith) ];
-  within = λ b. elim b [ zero ↦ λ l. e | suc b ↦ λ l. L.within b (omega arith) ];
-  apart = λ a b. elim a [
-    | zero ↦ elim b [ zero ↦ λ m l. absurd (omega arith) | suc b ↦ λ m l. h b (omega arith) ]
-    | suc a ↦ elim b [ zero ↦ λ m l. absurd (omega arith) | suc b ↦ λ m l. L.apart a b (omega arith) (omega arith) ]
-  ];
+  sized = λ b. elim b as (λ b. b < length (r ∷ R) → 0 < (at (r ∷ R) b).size) [ zero ↦ λ l. k | suc b ↦ λ l. L.sized b (omega arith) ];
+  colored = λ b. elim b as (λ b. b < length (r ∷ R) → 0 < (at (r ∷ R) b).color) [ zero ↦ λ l. c | suc b ↦ λ l. L.colored b (omega arith) ];
+  within = λ b. elim b as (λ b. b < length (r ∷ R) → end (at (r ∷ R) b) ≤ n) [ zero ↦ λ l. e | suc b ↦ λ l. L.within b (omega arith) ];
+  apart = first_apart g n r R L h;
 }
 
 -- the runs of a line from its cell s on, whose blocks are bs
@@ -68,7 +73,7 @@ module _ {g : ℕ → ℕ → ℕ} (G : Gap g) (line : List ℕ) (spaced : Space
       found = r ∷ S.found;
       read = ap (λ (l : List Block). block r ∷ l) S.read;
       laid = laid_first g (length line) r S.found k0 c0 e S.laid apart;
-      low = λ b. elim b [ zero ↦ λ l. le_refl s | suc b ↦ λ l. omega (arith, S.low b (omega arith)) ];
+      low = λ b. elim b as (λ b. b < length (r ∷ S.found) → s ≤ (at (r ∷ S.found) b).start) [ zero ↦ λ l. le_refl s | suc b ↦ λ l. omega (arith, S.low b (omega arith)) ];
       cells = λ t l. elim (dec_lt t (s + k)) [
         | yes m ↦ color_here r S.found t l m ∙ sym (here t l m)
         | no m ↦ color_past r S.found t (omega arith) ∙ S.cells t (omega arith)

@@ -1,4 +1,6 @@
 // The lists that loops make and the words that writers leave, with their laws; and the smallest writer.
+#![tactic(auto)]
+
 ghost use Rattle.std.specs.Prelude.{◌≡◌, [], ◌∷◌, ◌+◌, ◌≤◌, length};
 ghost use Rattle.lists.specs.Wrote.{Wrote};
 

@@ -1,14 +1,16 @@
 // A literal of clause words: v or -v, for a variable v.
+#![tactic(auto)]
+
 ghost use Rattle.std.specs.Prelude.{◌≡◌, ◌<◌, pos};
 ghost use Rattle.literals.specs.Literals.{IsVariable, positive, negative, variable, is_negative, Reading};
 
-#[derive(Drop)]
+#[derive(Clone, Copy)]
 pub struct Literal {
     word: i32,
 }
 
 // What a word is read as.
-#[derive(Drop)]
+#[derive(Clone, Copy)]
 pub enum Read {
     Good(Literal),
     Wrong,

@@ -1,4 +1,6 @@
 // The colours of a puzzle in order: the ranks by which the variables of its cells are numbered.
+#![tactic(auto)]
+
 pub mod line;
 
 ghost use Rattle.std.specs.Prelude.{◌≤◌, length};

@@ -1,4 +1,6 @@
 // Families 1 to 6: the positions of a line's blocks.
+#![tactic(auto)]
+
 mod line;
 mod overlap;
 pub mod rule;

@@ -1,2 +1,4 @@
 // Colour ranges: where in a line each colour can be.
+#![tactic(auto)]
+
 pub mod range;

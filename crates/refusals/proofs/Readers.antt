@@ -2,11 +2,11 @@
 use mathlib.Core.Path.{◌≡◌, refl, sym, ap, ap₂, ◌∙◌}
 use mathlib.Core.Bool.{Bool, false}
 use mathlib.Core.List.{List, [], ◌∷◌, ◌++◌, append_assoc, append-nil}
-use Prim.Native.Nat.{ℕ, zero, suc, ◌+◌, ◌≤◌}
+use Prim.Native.Nat.{ℕ, zero, suc, ◌+◌, ◌≤◌, ◌<◌}
 use native.Mathlib.Omega.{arith}
 use native.Mathlib.Nat.{add-zero, add_assoc}
 use lib.Dec.{ltb}
-use lib.ListN.{length, length-append}
+use lib.ListN.{length, length-append, get_or}
 use borrow.Author.Tests.{ltb-false}
 use Rattle.lists.specs.Each.{Every}
 use Rattle.refusals.specs.Verdict.{passed}
@@ -81,7 +81,7 @@ module _ {B A : Type 0} (d : A) {f : ℕ → List B → Walk B A} {W : A → Lis
       (record {
         words_are = one.words_are ∙ rw (some p.value q.value, append_assoc, ← more.words_are);
         place_is = omega (arith, one.place_is, more.place_is, ap length (some p.value q.value), length-append (W p.value) (all q.value));
-        fine = (omega (arith, more.fine.0), λ k. elim k [ zero ↦ λ h. one.fine | suc k ↦ λ h. more.fine.1 k (omega arith) ]);
+        fine = (omega (arith, more.fine.0), λ k. elim k as (λ k. k < length (p.value ∷ q.value) → Fine (get_or (p.value ∷ q.value) k d)) [ zero ↦ λ h. one.fine | suc k ↦ λ h. more.fine.1 k (omega arith) ]);
       })
 
   times_back : (n i : ℕ) (l : List A) (us : List B) → Many n l → times n f i (all l ++ us) ≡ got l (i + length (all l)) us

@@ -1,4 +1,6 @@
 // What every call answers: acceptance with how many words or bytes it wrote, or one refusal with its place.
+#![tactic(auto)]
+
 ghost use Rattle.std.specs.Prelude.{◌≡◌};
 ghost use Rattle.refusals.specs.Told.{refusal, told};
 ghost use Rattle.refusals.specs.Verdict.{number, place};

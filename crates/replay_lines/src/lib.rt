@@ -1,4 +1,6 @@
 // The calls that take a mask, a line, a clue or a grid.
+#![tactic(auto)]
+
 ghost use Rattle.std.specs.Prelude.{◌≤◌, length};
 
 use cases::entry::Entry;

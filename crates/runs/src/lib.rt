@@ -1,2 +1,4 @@
 // Reading a line: its maximal runs.
+#![tactic(auto)]
+
 pub mod line;

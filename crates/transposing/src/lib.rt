@@ -1,3 +1,5 @@
 // A grid's columns as rows.
+#![tactic(auto)]
+
 mod columns;
 pub mod transpose;

@@ -1,4 +1,6 @@
 // What a model makes of clauses, tested with no clause written.
+#![tactic(auto)]
+
 ghost use Rattle.std.specs.Prelude.{◌≡◌, ◌+◌, ◌≤◌, ◌<◌, length};
 ghost use Rattle.sections.specs.Sections.{row, at_most_one};
 ghost use Rattle.truth.specs.Truth.{value};

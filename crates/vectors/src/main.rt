@@ -1,5 +1,7 @@
 // Answers the cases of standard input: a line is an entry's name and its numbers, and what the entry says of them comes after it.
 // What must come out is stored, so that every number, place and word is compared, those that must stay untouched too.
+#![tactic(auto)]
+
 mod call;
 
 ghost use Rattle.std.specs.Prelude.{◌≡◌, ◌≤◌, length};
