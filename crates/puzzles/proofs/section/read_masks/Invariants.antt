@@ -1,0 +1,10 @@
+use Rattle.refusals.proofs.Passing.{Passing}
+use Rattle.puzzles.specs.Walk.{read_mask}
+use Prim.Native.Nat.{◌-◌}
+use Rattle.puzzles.proofs.section.read_masks.Given as goal
+
+abbrev pub invariant-loop-k : goal.invariant-loop-k
+invariant-loop-k l = Passing read_mask l.n l.at l.part l.k l.i
+
+abbrev pub decreases-loop-k : goal.decreases-loop-k
+decreases-loop-k l = l.n - l.k

@@ -1,0 +1,92 @@
+use Rattle.tables.proofs.Laying.{Room, room, line_length_is, laying_first, laying_short, laying_vars, laying_next, laying_done, laying_laid}
+use Rattle.puzzles.proofs.Accepting.{walked_sections, size_some}
+use Rattle.lines.proofs.Checks.{size_within}
+use Rattle.puzzles.specs.Checks.{puzzle}
+use Rattle.puzzles.specs.Puzzle as P
+use Prim.Native.Nat.{◌-◌, ◌<◌}
+use native.Mathlib.Omega.{arith}
+use mathlib.Core.Path.{◌≡◌, refl, ◌∙◌}
+use Rattle.tables.proofs.table.lay_lines.Goals as goal
+
+pub overflow_add-l-end : goal.overflow_add-l-end
+overflow_add-l-end c = omega (arith, c.requires.width_value, size_within (P.width (puzzle c.args.words.now)) (walked_sections 0 c.args.words.now c.requires.sectioned).fine.columns.0, size_within (P.height (puzzle c.args.words.now)) (walked_sections 0 c.args.words.now c.requires.sectioned).fine.rows.0)
+
+pub loop-l-init : goal.loop-l-init
+loop-l-init c = (omega (arith, c.requires.width_value), (refl, laying_first _ _ (size_some _ (walked_sections 0 c.args.words.now c.requires.sectioned).fine.columns.0)))
+
+pub lay_line-laid-requires-clause-sectioned : goal.lay_line-laid-requires-clause-sectioned
+lay_line-laid-requires-clause-sectioned c = let in_line : c.loop-l.l < P.lines (puzzle c.args.words.now) = omega (arith, c.loop-l.invariant.0, c.loop-l-test.true) in
+    let cells_are : c.line_length-cells.result ≡ P.length_at (puzzle c.args.words.now) c.loop-l.l = line_length_is (puzzle c.args.words.now) _ c.requires.width_value.0 c.requires.width_value.1 c.line_length-cells.ensures in
+    c.requires.sectioned
+
+pub lay_line-laid-requires-clause-standing : goal.lay_line-laid-requires-clause-standing
+lay_line-laid-requires-clause-standing c = let in_line : c.loop-l.l < P.lines (puzzle c.args.words.now) = omega (arith, c.loop-l.invariant.0, c.loop-l-test.true) in
+    let cells_are : c.line_length-cells.result ≡ P.length_at (puzzle c.args.words.now) c.loop-l.l = line_length_is (puzzle c.args.words.now) _ c.requires.width_value.0 c.requires.width_value.1 c.line_length-cells.ensures in
+    c.loop-l.invariant.1.1.stands
+
+pub lay_line-laid-requires-clause-l_bound : goal.lay_line-laid-requires-clause-l_bound
+lay_line-laid-requires-clause-l_bound c = let in_line : c.loop-l.l < P.lines (puzzle c.args.words.now) = omega (arith, c.loop-l.invariant.0, c.loop-l-test.true) in
+    let cells_are : c.line_length-cells.result ≡ P.length_at (puzzle c.args.words.now) c.loop-l.l = line_length_is (puzzle c.args.words.now) _ c.requires.width_value.0 c.requires.width_value.1 c.line_length-cells.ensures in
+    (in_line, cells_are, omega (arith, c.loop-l.invariant.1.0, c.requires.width_value))
+
+pub shape_of-table-in_default : goal.shape_of-table-in_default
+shape_of-table-in_default c = c.lay_line-laid.auto.table ∙ c.loop-l.invariant.1.0
+
+pub returns-in_default : goal.returns-in_default
+returns-in_default c = let in_line : c.loop-l.l < P.lines (puzzle c.args.words.now) = omega (arith, c.loop-l.invariant.0, c.loop-l-test.true) in
+    let cells_are : c.line_length-cells.result ≡ P.length_at (puzzle c.args.words.now) c.loop-l.l = line_length_is (puzzle c.args.words.now) _ c.requires.width_value.0 c.requires.width_value.1 c.line_length-cells.ensures in
+    laying_short _ c.requires.sectioned c.loop-l.invariant.1.1 in_line cells_are c.in_default.is c.lay_line-laid.ensures.result_value  -- clauses ['result_value', 'laid']
+
+pub overflow_add-first : goal.overflow_add-first
+overflow_add-first c = let in_line : c.loop-l.l < P.lines (puzzle c.args.words.now) = omega (arith, c.loop-l.invariant.0, c.loop-l-test.true) in
+    let room_is : Room c.args.words.now c.requires.sectioned c.loop-l.l in_line c.loop-l.invariant.1.1.stands = room _ c.requires.sectioned _ in_line c.loop-l.invariant.1.1.stands in
+    omega (arith, room_is, laying_vars _ c.requires.sectioned c.loop-l.invariant.1.1 in_line _ c.in-Accepted.is c.lay_line-laid.ensures.result_value)
+
+pub offset_bounds-words-at : goal.offset_bounds-words-at
+offset_bounds-words-at c = let in_line : c.loop-l.l < P.lines (puzzle c.args.words.now) = omega (arith, c.loop-l.invariant.0, c.loop-l-test.true) in
+    let room_is : Room c.args.words.now c.requires.sectioned c.loop-l.l in_line c.loop-l.invariant.1.1.stands = room _ c.requires.sectioned _ in_line c.loop-l.invariant.1.1.stands in
+    omega (arith, room_is)
+
+pub bounds-words-at : goal.bounds-words-at
+bounds-words-at c = let in_line : c.loop-l.l < P.lines (puzzle c.args.words.now) = omega (arith, c.loop-l.invariant.0, c.loop-l-test.true) in
+    let room_is : Room c.args.words.now c.requires.sectioned c.loop-l.l in_line c.loop-l.invariant.1.1.stands = room _ c.requires.sectioned _ in_line c.loop-l.invariant.1.1.stands in
+    omega (arith, room_is)
+
+pub overflow_add-at : goal.overflow_add-at
+overflow_add-at c = let in_line : c.loop-l.l < P.lines (puzzle c.args.words.now) = omega (arith, c.loop-l.invariant.0, c.loop-l-test.true) in
+    let room_is : Room c.args.words.now c.requires.sectioned c.loop-l.l in_line c.loop-l.invariant.1.1.stands = room _ c.requires.sectioned _ in_line c.loop-l.invariant.1.1.stands in
+    omega (arith, room_is, c.wide-n.ensures)
+
+pub overflow_mul-n : goal.overflow_mul-n
+overflow_mul-n c = let in_line : c.loop-l.l < P.lines (puzzle c.args.words.now) = omega (arith, c.loop-l.invariant.0, c.loop-l-test.true) in
+    let room_is : Room c.args.words.now c.requires.sectioned c.loop-l.l in_line c.loop-l.invariant.1.1.stands = room _ c.requires.sectioned _ in_line c.loop-l.invariant.1.1.stands in
+    omega (arith, room_is, c.wide-n.ensures)
+
+pub overflow_add-at-in-loop-l : goal.overflow_add-at-in-loop-l
+overflow_add-at-in-loop-l c = let in_line : c.loop-l.l < P.lines (puzzle c.args.words.now) = omega (arith, c.loop-l.invariant.0, c.loop-l-test.true) in
+    let room_is : Room c.args.words.now c.requires.sectioned c.loop-l.l in_line c.loop-l.invariant.1.1.stands = room _ c.requires.sectioned _ in_line c.loop-l.invariant.1.1.stands in
+    omega (arith, room_is, c.wide-n.ensures)
+
+pub next_begin-at-requires : goal.next_begin-at-requires
+next_begin-at-requires c = let in_line : c.loop-l.l < P.lines (puzzle c.args.words.now) = omega (arith, c.loop-l.invariant.0, c.loop-l-test.true) in
+    let room_is : Room c.args.words.now c.requires.sectioned c.loop-l.l in_line c.loop-l.invariant.1.1.stands = room _ c.requires.sectioned _ in_line c.loop-l.invariant.1.1.stands in
+    (omega (arith, room_is, c.wide-n.ensures), omega (arith, room_is))
+
+pub overflow_step-l : goal.overflow_step-l
+overflow_step-l c = let in_line : c.loop-l.l < P.lines (puzzle c.args.words.now) = omega (arith, c.loop-l.invariant.0, c.loop-l-test.true) in
+    let room_is : Room c.args.words.now c.requires.sectioned c.loop-l.l in_line c.loop-l.invariant.1.1.stands = room _ c.requires.sectioned _ in_line c.loop-l.invariant.1.1.stands in
+    omega (arith, room_is)
+
+pub loop-l-preserved : goal.loop-l-preserved
+loop-l-preserved c = let in_line : c.loop-l.l < P.lines (puzzle c.args.words.now) = omega (arith, c.loop-l.invariant.0, c.loop-l-test.true) in
+    let cells_are : c.line_length-cells.result ≡ P.length_at (puzzle c.args.words.now) c.loop-l.l = line_length_is (puzzle c.args.words.now) _ c.requires.width_value.0 c.requires.width_value.1 c.line_length-cells.ensures in
+    (c.loop-l.invariant.0, (c.lay_line-laid.auto.table ∙ c.loop-l.invariant.1.0, laying_next _ c.requires.sectioned c.loop-l.invariant.1.1 in_line (omega (arith, c.loop-l.invariant.1.0, c.requires.width_value)) cells_are c.in-Accepted.is c.lay_line-laid.ensures.result_value c.lay_line-laid.ensures.by_index c.wide-n.ensures c.requires.width_value.0 c.next_begin-at.ensures))
+
+pub shape_of-table : goal.shape_of-table
+shape_of-table c = c.loop-l.invariant.1.0
+
+pub returns-clause-result_value : goal.returns-clause-result_value
+returns-clause-result_value c = laying_done _ c.loop-l.invariant.1.1 (omega (arith, c.loop-l.invariant.0, c.loop-l-test.false))
+
+pub returns-clause-laid : goal.returns-clause-laid
+returns-clause-laid c = λ p. laying_laid _ c.loop-l.invariant.1.1 (omega (arith, c.loop-l.invariant.0, c.loop-l-test.false))
