@@ -33,9 +33,11 @@ pub shape_of-table-in_default : goal.shape_of-table-in_default
 shape_of-table-in_default c = c.lay_line-laid.auto.table ∙ c.loop-l.invariant.1.0
 
 pub returns-in_default : goal.returns-in_default
-returns-in_default c = let hole = c in ?
+returns-in_default c =
+    let in_line : c.loop-l.l < P.lines (puzzle c.args.words.now) = omega (arith, c.loop-l.invariant.0, c.loop-l-test.true) in
     let cells_are : c.line_length-cells.result ≡ P.length_at (puzzle c.args.words.now) c.loop-l.l = line_length_is (puzzle c.args.words.now) _ c.requires.width_value.0 c.requires.width_value.1 c.line_length-cells.ensures in
-    laying_short _ c.requires.sectioned c.loop-l.invariant.1.1 in_line cells_are c.in_default.is c.lay_line-laid.ensures.result_value  -- clauses ['result_value', 'laid']
+    let short = laying_short _ c.requires.sectioned c.loop-l.invariant.1.1 in_line cells_are c.in_default.is c.lay_line-laid.ensures.result_value in
+    record { result_value = short.0; laid = short.1 }
 
 pub overflow_add-first : goal.overflow_add-first
 overflow_add-first c = let in_line : c.loop-l.l < P.lines (puzzle c.args.words.now) = omega (arith, c.loop-l.invariant.0, c.loop-l-test.true) in
