@@ -15,7 +15,7 @@ use refusals::{Answer, Refusal};
 use tables::table::{find_line, lay_lines, next_first};
 
 // Where the rows and the cells begin, the first cell variable, and the colour set as a mask.
-#[derive(Drop)]
+#[derive(Clone, Copy)]
 pub struct Board {
     pub width: usize,
     pub height: usize,
@@ -25,7 +25,7 @@ pub struct Board {
     pub colors: u32,
 }
 
-#[derive(Drop)]
+#[derive(Clone, Copy)]
 pub enum Reading {
     Read(Board),
     Refused(Refusal),

@@ -1,5 +1,5 @@
 // The entries by name.
-#[derive(Drop)]
+#[derive(Clone, Copy)]
 pub enum Entry {
     TwoPowers,
     FromTwoPowers,

@@ -1,5 +1,5 @@
 // What is said of a cell's colour and the positions that cover the cell.
-#[derive(Drop)]
+#[derive(Clone, Copy)]
 pub enum Rule {
     Color,
     Space,

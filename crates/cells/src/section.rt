@@ -18,7 +18,7 @@ use boards::board::Board;
 use literals::count_word;
 
 // What is asked of a line: the rule, the colour, and the variable of the cell's colour.
-#[derive(Drop)]
+#[derive(Clone, Copy)]
 pub struct Ask {
     pub rule: Rule,
     pub color: u32,

@@ -1,5 +1,5 @@
 // What is counted of a line: its blocks, and the clauses of its families.
-#[derive(Drop)]
+#[derive(Clone, Copy)]
 pub enum Measure {
     Blocks,
     Once,

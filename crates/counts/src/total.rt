@@ -12,7 +12,7 @@ use crate::units::count_units;
 use boards::board::Board;
 
 // The clauses of the columns, or of the rows.
-#[derive(Drop)]
+#[derive(Clone, Copy)]
 pub struct Side {
     pub positions: usize,
     pub once: usize,
@@ -20,7 +20,7 @@ pub struct Side {
 }
 
 // The clauses of the cells.
-#[derive(Drop)]
+#[derive(Clone, Copy)]
 pub struct Cells {
     pub color: usize,
     pub space: usize,
@@ -28,7 +28,7 @@ pub struct Cells {
     pub units: usize,
 }
 
-#[derive(Drop)]
+#[derive(Clone, Copy)]
 pub struct Counts {
     pub variables: usize,
     pub columns: Side,

@@ -10,7 +10,7 @@ use lists::wide;
 use literals::Literal;
 
 // Of the lines behind the first.
-#[derive(Drop)]
+#[derive(Clone, Copy)]
 pub struct Extent {
     pub clauses: usize,
     pub bytes: usize,

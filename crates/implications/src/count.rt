@@ -11,7 +11,7 @@ use boards::board::Board;
 use lists::wide;
 
 // Clauses, and their words.
-#[derive(Drop)]
+#[derive(Clone, Copy)]
 pub struct Extent {
     pub clauses: usize,
     pub words: usize,

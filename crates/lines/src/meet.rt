@@ -9,7 +9,7 @@ use crate::gap::gap;
 use lists::wide;
 
 // A block with its place in the packed line.
-#[derive(Drop)]
+#[derive(Clone, Copy)]
 pub struct Run {
     pub start: usize,
     pub size: usize,

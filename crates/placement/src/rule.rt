@@ -1,5 +1,5 @@
 // What is said of the blocks of a line.
-#[derive(Drop)]
+#[derive(Clone, Copy)]
 pub enum Rule {
     Positions,
     Once,

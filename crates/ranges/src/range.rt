@@ -12,7 +12,7 @@ use lists::put_pair;
 use refusals::{Answer, Refusal};
 
 // The packed blocks of a colour, where there are any: the first one's start and the last one's end.
-#[derive(Drop)]
+#[derive(Clone, Copy)]
 struct Span {
     found: bool,
     start: u32,

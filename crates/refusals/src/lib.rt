@@ -6,7 +6,7 @@ ghost use Rattle.refusals.specs.Told.{refusal, told};
 ghost use Rattle.refusals.specs.Verdict.{number, place};
 
 // A variant for each number of document 01, in its order, with the place.
-#[derive(Drop)]
+#[derive(Clone, Copy)]
 pub enum Refusal {
     WordMissing(usize),
     Size(usize),
@@ -95,7 +95,7 @@ impl Refusal {
     }
 }
 
-#[derive(Drop)]
+#[derive(Clone, Copy)]
 pub enum Answer {
     Accepted(usize),
     Refused(Refusal),

@@ -77,7 +77,7 @@ pub fn lay_lines(words: &[u32], width: usize, height: usize, table: &mut [u32]) 
 }
 
 // Where a line stands: its own words in the table from `line` on, and those of its clue from `begin` to `end`.
-#[derive(Drop)]
+#[derive(Clone, Copy)]
 pub struct Parts {
     pub line: usize,
     pub begin: usize,

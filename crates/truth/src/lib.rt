@@ -7,7 +7,7 @@ ghost use Rattle.truth.specs.Truth.{value};
 ghost use Rattle.truth.specs.Tested.{tested, said, Countable};
 
 // The place behind clauses that are all true, or that of the first that is false.
-#[derive(Drop)]
+#[derive(Clone, Copy)]
 pub enum Tested {
     Fine(usize),
     False(usize),

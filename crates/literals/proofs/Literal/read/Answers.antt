@@ -11,8 +11,8 @@ pub returns-then-v-eq0 : goal.returns-then-v-eq0
 returns-then-v-eq0 c =
     let v = c.magnitude-v.result in
     let off : eqb v 0 || (ltb c.args.variables v || ltb largest v) ≡ true = ⊎_elim (λ w. rw (eq-eqb v 0 w))
-      (⊎_elim (λ w. rw (ne_eqb v 0 w.0, lt-ltb c.args.variables v w.1)) (λ w. rw (ne_eqb v 0 w.0, le-ltb c.args.variables v w.1, lt-ltb largest v w.2)))
-      c.then-v-eq0.either in
+    (⊎_elim (λ w. rw (ne_eqb v 0 w.0, lt-ltb c.args.variables v w.1)) (λ w. rw (ne_eqb v 0 w.0, le-ltb c.args.variables v w.1, lt-ltb largest v w.2)))
+    c.then-v-eq0.either in
     rw (← (c.magnitude-v.ensures ∙ ap variable (word_is c.args.word c.ranges.word.sfits))) off
 
 pub returns : goal.returns
