@@ -32,7 +32,7 @@ slice_bounds-count_begun-count-in-loop-y c = let begin : c.args.width ≤ c.loop
     omega (arith, begin)
 
 pub slice_bounds-count_begun-start-in-loop-y : goal.slice_bounds-count_begun-start-in-loop-y
-slice_bounds-count_begun-start-in-loop-y c = row_end c.requires c.loop-y.invariant c.loop-y-test.true
+slice_bounds-count_begun-start-in-loop-y c = omega (arith, row_end c.requires c.loop-y.invariant c.loop-y-test.true)
 
 pub slice_bounds-count_begun-end-in-loop-y : goal.slice_bounds-count_begun-end-in-loop-y
 slice_bounds-count_begun-end-in-loop-y c = row_end c.requires c.loop-y.invariant c.loop-y-test.true
@@ -48,7 +48,7 @@ pub slice_bounds-count_begun-start-in-loop-y-2 : goal.slice_bounds-count_begun-s
 slice_bounds-count_begun-start-in-loop-y-2 c = omega arith
 
 pub slice_bounds-count_begun-end-in-loop-y-2 : goal.slice_bounds-count_begun-end-in-loop-y-2
-slice_bounds-count_begun-end-in-loop-y-2 c = row_end c.requires c.loop-y.invariant c.loop-y-test.true
+slice_bounds-count_begun-end-in-loop-y-2 c = omega (arith, row_end c.requires c.loop-y.invariant c.loop-y-test.true)
 
 pub count_begun-count-requires-in-loop-y : goal.count_begun-count-requires-in-loop-y
 count_begun-count-requires-in-loop-y c = let S = c.requires in

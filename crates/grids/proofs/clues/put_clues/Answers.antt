@@ -13,7 +13,7 @@ pub bounds-out-from : goal.bounds-out-from
 bounds-out-from c = section_space _ _ _ _ _ c.args.out.now _ c.requires.cells_in_bounds
 
 pub overflow_add-to : goal.overflow_add-to
-overflow_add-to c = section_space _ _ _ _ _ c.args.out.now _ c.requires.cells_in_bounds
+overflow_add-to c = omega (arith, section_space _ _ _ _ _ c.args.out.now _ c.requires.cells_in_bounds)
 
 pub loop-i-init : goal.loop-i-init
 loop-i-init c = section_first _ _ _ _ _ c.args.out.now _ c.requires.cells_in_bounds
