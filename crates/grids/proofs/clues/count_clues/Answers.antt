@@ -1,6 +1,5 @@
 use mathlib.Core.Path.{ap, ◌∙◌}
 use native.Mathlib.Omega.{arith}
-use Prim.Native.Nat.{◌-◌}
 use lib.ListN.{length}
 use Rattle.lines.specs.Calls.{line_words}
 use Rattle.grids.proofs.ClueSections.{summing_first, summing_next, summing_done, line_end, line_row, line_short}

@@ -1,6 +1,5 @@
 use mathlib.Core.Path.{◌≡◌, ◌∙◌}
 use native.Mathlib.Omega.{arith}
-use Prim.Native.Nat.{◌-◌}
 use lib.ListN.{length, length-set}
 use Rattle.lists.proofs.Writing.{wrote_store}
 use Rattle.lists.proofs.Emitting.{emit_kept, emit_room, emit_next}
