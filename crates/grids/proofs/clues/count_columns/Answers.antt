@@ -58,7 +58,7 @@ count_begun-count-requires-in-loop-y c = let S = c.requires in
 
 pub overflow_add-count : goal.overflow_add-count
 overflow_add-count c = let next = descending_next c.requires c.loop-y.invariant c.loop-y-test.true c.count_begun-count-in-loop-y.ensures in
-    omega (arith, (next).few, (next).within, c.requires.height_most)
+    omega (arith, next.few, next.within, c.requires.height_most)
 
 pub loop-y-preserved : goal.loop-y-preserved
 loop-y-preserved c = descending_next c.requires c.loop-y.invariant c.loop-y-test.true c.count_begun-count-in-loop-y.ensures

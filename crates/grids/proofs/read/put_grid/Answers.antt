@@ -10,9 +10,7 @@ pub put_clues-rows-requires-clause-cells_in_bounds : goal.put_clues-rows-require
 put_clues-rows-requires-clause-cells_in_bounds c = columns_room c.requires.0 c.args.out.now c.requires.2
 
 pub put_clues-cells-requires-clause-laid : goal.put_clues-cells-requires-clause-laid
-put_clues-cells-requires-clause-laid c = let p = c.requires in
-    let a = c.put_clues-rows in
-    rows_laid p.0
+put_clues-cells-requires-clause-laid c = rows_laid c.requires.0
 
 pub put_clues-cells-requires-clause-cells_in_bounds : goal.put_clues-cells-requires-clause-cells_in_bounds
 put_clues-cells-requires-clause-cells_in_bounds c = let p = c.requires in
