@@ -5,7 +5,7 @@ use mathlib.Core.List.{List}
 use Prim.Native.Nat.{ℕ, ◌*◌}
 use lib.ListN.{length, get_or}
 use lib.Dec.{eqb, ltb}
-use borrow.Author.Tests.{eq-eqb, ne_eqb, eqb-true, ltb-false, not_false}
+use borrow.Author.Tests.{eq-eqb, ne_eqb, eqb-true, ltb-false, not-false}
 use Rattle.refusals.specs.Verdict.{passed, refused}
 use Rattle.refusals.specs.Told.{checked}
 use Rattle.refusals.specs.declared.Refusal.{Refusal}
@@ -51,7 +51,7 @@ module _ {w h : ℕ} {grid : List ℕ} where
         width_most = size_within w a.0;
         height_some = size_some h b.0;
         height_most = size_within h b.0;
-        cells = eqb-true _ _ (not_false _ c.0);
+        cells = eqb-true _ _ (not-false _ c.0);
       }
 
 -- ---- the bytes come after

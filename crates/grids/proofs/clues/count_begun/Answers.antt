@@ -1,6 +1,5 @@
 use mathlib.Core.Path.{refl}
 use native.Mathlib.Omega.{arith}
-use Prim.Native.Nat.{◌-◌}
 use Rattle.grids.proofs.ColumnWords.{finding_first, finding_next, finding_done}
 use borrow.Author.Rules.{rules}
 use Rattle.grids.proofs.clues.count_begun.Goals as goal

@@ -1,6 +1,5 @@
 use mathlib.Core.Path.{ap, ◌∙◌}
 use native.Mathlib.Omega.{arith}
-use Prim.Native.Nat.{◌-◌}
 use lib.ListN.{length}
 use Rattle.lines.specs.Calls.{line_words}
 use Rattle.grids.proofs.ClueSections.{summing_first, summing_next, summing_done, line_end, line_row, line_short}
@@ -10,10 +9,10 @@ pub loop-i-init : goal.loop-i-init
 loop-i-init c = summing_first _ _ _
 
 pub overflow_mul-at : goal.overflow_mul-at
-overflow_mul-at c = line_end _ _ _ c.requires _ c.loop-i-test.true
+overflow_mul-at c = omega (arith, line_end _ _ _ c.requires _ c.loop-i-test.true)
 
 pub overflow_add-at : goal.overflow_add-at
-overflow_add-at c = line_end _ _ _ c.requires _ c.loop-i-test.true
+overflow_add-at c = omega (arith, line_end _ _ _ c.requires _ c.loop-i-test.true)
 
 pub slice_bounds-count_words-end : goal.slice_bounds-count_words-end
 slice_bounds-count_words-end c = line_end _ _ _ c.requires _ c.loop-i-test.true

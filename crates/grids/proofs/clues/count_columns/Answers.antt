@@ -1,6 +1,6 @@
 use mathlib.Core.Path.{refl}
 use native.Mathlib.Omega.{arith}
-use Prim.Native.Nat.{ℕ, ◌-◌, ◌*◌, ◌≤◌}
+use Prim.Native.Nat.{ℕ, ◌*◌, ◌≤◌}
 use lib.ListN.{length-replicate}
 use Rattle.grids.proofs.Cells.{sized_most}
 use Rattle.grids.proofs.ColumnWords.{first_end, first_length, descending_first, row_begin, row_end, row_length_here, row_length_above, descending_next, descending_done}
@@ -32,7 +32,7 @@ slice_bounds-count_begun-count-in-loop-y c = let begin : c.args.width ≤ c.loop
     omega (arith, begin)
 
 pub slice_bounds-count_begun-start-in-loop-y : goal.slice_bounds-count_begun-start-in-loop-y
-slice_bounds-count_begun-start-in-loop-y c = row_end c.requires c.loop-y.invariant c.loop-y-test.true
+slice_bounds-count_begun-start-in-loop-y c = omega (arith, row_end c.requires c.loop-y.invariant c.loop-y-test.true)
 
 pub slice_bounds-count_begun-end-in-loop-y : goal.slice_bounds-count_begun-end-in-loop-y
 slice_bounds-count_begun-end-in-loop-y c = row_end c.requires c.loop-y.invariant c.loop-y-test.true
@@ -48,7 +48,7 @@ pub slice_bounds-count_begun-start-in-loop-y-2 : goal.slice_bounds-count_begun-s
 slice_bounds-count_begun-start-in-loop-y-2 c = omega arith
 
 pub slice_bounds-count_begun-end-in-loop-y-2 : goal.slice_bounds-count_begun-end-in-loop-y-2
-slice_bounds-count_begun-end-in-loop-y-2 c = row_end c.requires c.loop-y.invariant c.loop-y-test.true
+slice_bounds-count_begun-end-in-loop-y-2 c = omega (arith, row_end c.requires c.loop-y.invariant c.loop-y-test.true)
 
 pub count_begun-count-requires-in-loop-y : goal.count_begun-count-requires-in-loop-y
 count_begun-count-requires-in-loop-y c = let S = c.requires in
@@ -58,7 +58,7 @@ count_begun-count-requires-in-loop-y c = let S = c.requires in
 
 pub overflow_add-count : goal.overflow_add-count
 overflow_add-count c = let next = descending_next c.requires c.loop-y.invariant c.loop-y-test.true c.count_begun-count-in-loop-y.ensures in
-    omega (arith, (next).few, (next).within, c.requires.height_most)
+    omega (arith, next.few, next.within, c.requires.height_most)
 
 pub loop-y-preserved : goal.loop-y-preserved
 loop-y-preserved c = descending_next c.requires c.loop-y.invariant c.loop-y-test.true c.count_begun-count-in-loop-y.ensures

@@ -1,6 +1,5 @@
 use mathlib.Core.Path.{◌∙◌}
 use native.Mathlib.Omega.{arith}
-use Prim.Native.Nat.{◌-◌}
 use lib.ListN.{length-set}
 use Rattle.lists.proofs.Emitting.{emit_kept, emit_room, emit_next}
 use Rattle.grids.proofs.ClueSections.{section_space, section_first, section_done}
@@ -13,7 +12,7 @@ pub bounds-out-from : goal.bounds-out-from
 bounds-out-from c = section_space _ _ _ _ _ c.args.out.now _ c.requires.cells_in_bounds
 
 pub overflow_add-to : goal.overflow_add-to
-overflow_add-to c = section_space _ _ _ _ _ c.args.out.now _ c.requires.cells_in_bounds
+overflow_add-to c = omega (arith, section_space _ _ _ _ _ c.args.out.now _ c.requires.cells_in_bounds)
 
 pub loop-i-init : goal.loop-i-init
 loop-i-init c = section_first _ _ _ _ _ c.args.out.now _ c.requires.cells_in_bounds
