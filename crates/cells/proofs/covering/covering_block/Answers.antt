@@ -4,7 +4,6 @@ use native.Mathlib.Omega.{arith}
 use Prim.Native.Nat.{◌-◌}
 use Rattle.lines.specs.Arrangement.{moved, covers}
 use Rattle.lines.specs.Runs.{run}
-use Rattle.lists.proofs.Tests.{not_false}
 use Rattle.lists.proofs.Emitting.{emit_kept}
 use Rattle.cells.proofs.BlockPositions.{reaching_first, reaching_late, reaching_early, reaching_space, reaching_next, reaching_done}
 use Rattle.cells.proofs.covering.covering_block.Goals as goal
@@ -30,7 +29,7 @@ offset_bounds-found-to c = omega (
 )
 
 pub bounds-found-to : goal.bounds-found-to
-bounds-found-to c = let covered : covers (moved (run c.args.block) c.loop-i.i) c.args.t ≡ true = sym c.covers.ensures ∙ not_false _ c.if-not-covers.false in
+bounds-found-to c = let covered : covers (moved (run c.args.block) c.loop-i.i) c.args.t ≡ true = sym c.covers.ensures ∙ c.if-not-covers.false in
     reaching_space _ (run c.args.block) _ _ c.loop-i.invariant c.loop-i-test.true covered
 
 pub overflow_add-to : goal.overflow_add-to

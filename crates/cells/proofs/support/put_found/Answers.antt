@@ -14,13 +14,13 @@ pub yes-requires : goal.yes-requires
 yes-requires c = c.requires.are_variables _ (omega arith)
 
 pub offset_bounds-out-to : goal.offset_bounds-out-to
-offset_bounds-out-to c = omega (arith, (omega (arith, emit_room c.loop-i.invariant.1 (omega arith))), emit_kept c.loop-i.invariant.1)
+offset_bounds-out-to c = omega (arith, emit_room c.loop-i.invariant.1 (omega arith), emit_kept c.loop-i.invariant.1)
 
 pub bounds-out-to : goal.bounds-out-to
 bounds-out-to c = omega (arith, emit_room c.loop-i.invariant.1 (omega arith))
 
 pub overflow_add-to : goal.overflow_add-to
-overflow_add-to c = omega (arith, (omega (arith, emit_room c.loop-i.invariant.1 (omega arith))), emit_kept c.loop-i.invariant.1)
+overflow_add-to c = omega (arith, emit_room c.loop-i.invariant.1 (omega arith), emit_kept c.loop-i.invariant.1)
 
 pub loop-i-preserved : goal.loop-i-preserved
 loop-i-preserved c = (c.loop-i.invariant.0, emit_next c.loop-i.invariant.1 (omega arith) (rw (word_is c.yes.result c.yes.type_inv, c.yes.ensures) (wrote_store _ _ _ (omega (arith, emit_room c.loop-i.invariant.1 (omega arith))))))

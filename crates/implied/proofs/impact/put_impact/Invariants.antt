@@ -8,7 +8,7 @@ use Rattle.implied.specs.Implications.{implied}
 use Rattle.implied.proofs.impact.put_impact.Given as goal
 
 abbrev pub invariant-loop-r : goal.invariant-loop-r
-invariant-loop-r l = (l.r-end ≡ length l.palette) × Emitting (length l.palette) (λ k. clauses_words (map (λ l. l.premise ++ (l ∷ [])) (implied l.color (get_or l.palette k 0) (l.v + k)))) l.initial.out l.at l.out l.to l.r
+invariant-loop-r s = (s.r-end ≡ length s.palette) × Emitting (length s.palette) (λ k. clauses_words (map (λ l. s.premise ++ (l ∷ [])) (implied s.color (get_or s.palette k 0) (s.v + k)))) s.initial.out s.at s.out s.to s.r
 
 abbrev pub decreases-loop-r : goal.decreases-loop-r
 decreases-loop-r l = length l.palette - l.r
