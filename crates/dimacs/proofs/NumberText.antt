@@ -102,10 +102,14 @@ OnlyDigits ds = (i : ℕ) → i < length ds → (48 ≤ get_or ds i 0) × (get_o
 
 pub digits_only : (n : ℕ) → OnlyDigits (digits n)
 digits_only n = by_tens (λ n. OnlyDigits (digits n))
-    (λ n h. rw (digits_one n h) (λ i. elim i [ zero ↦ λ l. (omega arith, omega arith) | suc i ↦ λ l. absurd (omega arith) ]))
+    (λ n h. rw (digits_one n h) (one n h))
     (λ n h o. rw (digits_more n h) (λ i l. last (digits (n / 10)) (n % 10) (tens n).last o i l))
     n
   where
+    one : (n : ℕ) → n < 10 → OnlyDigits (digit n ∷ [])
+    one n h zero l = (omega arith, omega arith)
+    one n h (suc i) l = absurd (omega arith)
+
     last : (ds : List ℕ) (d : ℕ) → d < 10 → OnlyDigits ds → OnlyDigits (ds ++ (digit d ∷ []))
     last ds d h o i l = elim (dec_lt i (length ds)) [
       | yes m ↦ rw (get_or-append ds _ 0 i m) (o i m)

@@ -1,8 +1,8 @@
 use Rattle.dimacs.proofs.ClauseLines.{filling_first, filling_kept, filling_next, literal_room, space_room, space_at, end_room, line_wrote}
-use lib.ListN.{length-set}
+use lib.ListN.{get_or, length-set}
+use lib.IntN.{pos}
 use native.Mathlib.Omega.{arith}
 use mathlib.Core.Path.{refl, ◌∙◌}
-use Prim.Native.Nat.{◌-◌}
 use Rattle.literals.proofs.Words.{word_is}
 use Rattle.dimacs.proofs.write.put_clause.Goals as goal
 
@@ -10,19 +10,19 @@ pub loop-k-init : goal.loop-k-init
 loop-k-init c = (filling_first _ _ _ c.requires.1, refl)
 
 pub of_word-requires : goal.of_word-requires
-of_word-requires c = rw (word_is _ c.of_word-arg-1.given) (c.requires.0 _ (omega (arith, c.loop-k-test.true)))
+of_word-requires c = rw (word_is (get_or c.args.clause.now c.loop-k.k (pos 0)) (omega arith)) (c.requires.0 _ (omega (arith, c.loop-k-test.true)))
 
 pub put_literal-to-requires : goal.put_literal-to-requires
-put_literal-to-requires c = literal_room c.loop-k.invariant.0 (omega (arith, c.loop-k-test.true)) (c.of_word.ensures ∙ word_is _ c.of_word-arg-1.given)
+put_literal-to-requires c = literal_room c.loop-k.invariant.0 (omega (arith, c.loop-k-test.true)) (c.of_word.ensures ∙ word_is _ (omega arith))
 
 pub bounds-out-to : goal.bounds-out-to
-bounds-out-to c = space_room c.loop-k.invariant.0 (omega (arith, c.loop-k-test.true)) (c.of_word.ensures ∙ word_is _ c.of_word-arg-1.given) c.put_literal-to.ensures
+bounds-out-to c = space_room c.loop-k.invariant.0 (omega (arith, c.loop-k-test.true)) (c.of_word.ensures ∙ word_is _ (omega arith)) c.put_literal-to.ensures
 
 pub overflow_add-to : goal.overflow_add-to
-overflow_add-to c = omega (arith, space_at c.loop-k.invariant.0 (omega (arith, c.loop-k-test.true)) (c.of_word.ensures ∙ word_is _ c.of_word-arg-1.given) c.put_literal-to.ensures)
+overflow_add-to c = omega (arith, space_at c.loop-k.invariant.0 (omega (arith, c.loop-k-test.true)) (c.of_word.ensures ∙ word_is _ (omega arith)) c.put_literal-to.ensures)
 
 pub loop-k-preserved : goal.loop-k-preserved
-loop-k-preserved c = (filling_next c.loop-k.invariant.0 (omega (arith, c.loop-k-test.true)) (c.of_word.ensures ∙ word_is _ c.of_word-arg-1.given) c.put_literal-to.ensures, refl)
+loop-k-preserved c = (filling_next c.loop-k.invariant.0 (omega (arith, c.loop-k-test.true)) (c.of_word.ensures ∙ word_is _ (omega arith)) c.put_literal-to.ensures, refl)
 
 pub bounds-out-to-2 : goal.bounds-out-to-2
 bounds-out-to-2 c = omega (arith, end_room c.loop-k.invariant.0 (omega arith))
