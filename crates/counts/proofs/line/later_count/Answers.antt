@@ -28,7 +28,7 @@ pub pair_count-total-requires : goal.pair_count-total-requires
 pair_count-total-requires c = omega (arith, c.positions_of-p.ensures c.args.clue.now, sound_shared c.requires.sound.0, sound_some c.requires.sound.0)
 
 pub overflow_add-total : goal.overflow_add-total
-overflow_add-total c = omega (arith, summing_most c.loop-k.invariant of_many c.args.line.now c.args.clue.now, c.loop-k-test.true (pair_is c.args.line.now c.args.clue.now c.args.a c.loop-k.k (c.positions_of-p.ensures _) c.distance_of.ensures.value c.pair_count-total.ensures), sound_shared c.requires.sound.0, sound_some c.requires.sound.0)
+overflow_add-total c = omega (arith, summing_most c.loop-k.invariant (omega (arith, of_many c.args.line.now c.args.clue.now, c.loop-k-test.true)) (pair_is c.args.line.now c.args.clue.now c.args.a c.loop-k.k (c.positions_of-p.ensures _) c.distance_of.ensures.value c.pair_count-total.ensures), sound_shared c.requires.sound.0, sound_some c.requires.sound.0)
 
 pub overflow_step-k : goal.overflow_step-k
 overflow_step-k c = omega (arith, of_many c.args.line.now c.args.clue.now, sound_shared c.requires.sound.0, sound_some c.requires.sound.0, c.loop-k-test.true)

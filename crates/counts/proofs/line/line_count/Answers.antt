@@ -9,7 +9,7 @@ pub overflow_sub-result : goal.overflow_sub-result
 overflow_sub-result c = omega (arith, line_small c.args.line.now c.args.clue.now refl (c.positions_of-p.ensures _) c.requires.0)
 
 pub overflow_mul-result : goal.overflow_mul-result
-overflow_mul-result c = omega (arith, mul-le-mul_right {m = c.positions_of-p.result} {n = 65} (c.positions_of-p.result - 1) line_small c.args.line.now c.args.clue.now refl (c.positions_of-p.ensures _) c.requires.0, line_small c.args.line.now c.args.clue.now refl (c.positions_of-p.ensures _) c.requires.0)
+overflow_mul-result c = omega (arith, mul-le-mul_right {m = c.positions_of-p.result} {n = 65} (c.positions_of-p.result - 1) (omega (arith, line_small c.args.line.now c.args.clue.now refl (c.positions_of-p.ensures _) c.requires.0)), line_small c.args.line.now c.args.clue.now refl (c.positions_of-p.ensures _) c.requires.0)
 
 pub overflow_mul-result-in-Once : goal.overflow_mul-result-in-Once
 overflow_mul-result-in-Once c = omega (arith, line_small c.args.line.now c.args.clue.now refl (c.positions_of-p.ensures _) c.requires.0)

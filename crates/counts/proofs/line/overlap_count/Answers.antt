@@ -17,7 +17,7 @@ pub later_count-total-requires-clause-a_bound : goal.later_count-total-requires-
 later_count-total-requires-clause-a_bound c = (omega (arith, of_many c.args.line.now c.args.clue.now, c.loop-a-test.true))
 
 pub overflow_add-total : goal.overflow_add-total
-overflow_add-total c = omega (arith, summing_most c.loop-a.invariant of_many c.args.line.now c.args.clue.now, c.loop-a-test.true c.later_count-total.ensures, sound_shared c.requires.0, sound_some c.requires.0)
+overflow_add-total c = omega (arith, summing_most c.loop-a.invariant (omega (arith, of_many c.args.line.now c.args.clue.now, c.loop-a-test.true)) c.later_count-total.ensures, sound_shared c.requires.0, sound_some c.requires.0)
 
 pub overflow_step-a : goal.overflow_step-a
 overflow_step-a c = omega (arith, of_many c.args.line.now c.args.clue.now, sound_shared c.requires.0, sound_some c.requires.0, c.loop-a-test.true)
