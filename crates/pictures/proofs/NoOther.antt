@@ -19,7 +19,7 @@ one_or_none d {P} dec (a ∷ l) = elim (dec a) [
   | yes p ↦ inl (0, omega arith, p)
   | no n ↦ elim (one_or_none d dec l) [
     | inl s ↦ inl (suc s.0, omega (arith, s.1), s.2)
-    | inr none ↦ inr (λ i. elim i [ zero ↦ λ h p. n p | suc i ↦ λ h p. none i (omega arith) p ])
+    | inr none ↦ inr (λ i. elim i as (λ i. i < length (a ∷ l) → P (get_or (a ∷ l) i d) → ⊥) [ zero ↦ λ h p. n p | suc i ↦ λ h p. none i (omega arith) p ])
   ]
 ]
 
