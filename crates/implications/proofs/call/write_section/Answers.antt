@@ -19,16 +19,13 @@ pub slice_bounds-write_probes-end : goal.slice_bounds-write_probes-end
 slice_bounds-write_probes-end c = omega (arith, c.palette-k.ensures.next_is, ap length (front_is c.palette-k.ensures))
 
 pub write_probes-requires-clause-palette_value : goal.write_probes-requires-clause-palette_value
-write_probes-requires-clause-palette_value c = (rw (front_is c.palette-k.ensures) (((c.requires.good.0, record { good = c.requires.good.1; stands = c.requires.good.2; hues_are = ap (λ (K : ℕ). length (N.palette K)) c.requires.good.2.colors_is }), refl), (c.requires.passed_value, ((c.count_probes-size.ensures.extent_is.clauses_is, c.count_probes-size.ensures.clauses_bound.0), omega (arith, (section_needs _ c.count_probes-size.ensures.extent_is.words_is), c.if-out-need.false))))).0
-
-pub write_probes-requires-clause-passed_value : goal.write_probes-requires-clause-passed_value
-write_probes-requires-clause-passed_value c = (rw (front_is c.palette-k.ensures) (((c.requires.good.0, record { good = c.requires.good.1; stands = c.requires.good.2; hues_are = ap (λ (K : ℕ). length (N.palette K)) c.requires.good.2.colors_is }), refl), (c.requires.passed_value, ((c.count_probes-size.ensures.extent_is.clauses_is, c.count_probes-size.ensures.clauses_bound.0), omega (arith, (section_needs _ c.count_probes-size.ensures.extent_is.words_is), c.if-out-need.false))))).1.0
+write_probes-requires-clause-palette_value c = rw (front_is c.palette-k.ensures) ((c.requires.good.0, record { good = c.requires.good.1; stands = c.requires.good.2; hues_are = ap (λ (K : ℕ). length (N.palette K)) c.requires.good.2.colors_is }), refl)
 
 pub write_probes-requires-clause-count_value : goal.write_probes-requires-clause-count_value
-write_probes-requires-clause-count_value c = (rw (front_is c.palette-k.ensures) (((c.requires.good.0, record { good = c.requires.good.1; stands = c.requires.good.2; hues_are = ap (λ (K : ℕ). length (N.palette K)) c.requires.good.2.colors_is }), refl), (c.requires.passed_value, ((c.count_probes-size.ensures.extent_is.clauses_is, c.count_probes-size.ensures.clauses_bound.0), omega (arith, (section_needs _ c.count_probes-size.ensures.extent_is.words_is), c.if-out-need.false))))).1.1.0
+write_probes-requires-clause-count_value c = rw (front_is c.palette-k.ensures) (c.count_probes-size.ensures.extent_is.clauses_is, c.count_probes-size.ensures.clauses_bound.0)
 
 pub write_probes-requires-clause-probe_in_bounds : goal.write_probes-requires-clause-probe_in_bounds
-write_probes-requires-clause-probe_in_bounds c = (rw (front_is c.palette-k.ensures) (((c.requires.good.0, record { good = c.requires.good.1; stands = c.requires.good.2; hues_are = ap (λ (K : ℕ). length (N.palette K)) c.requires.good.2.colors_is }), refl), (c.requires.passed_value, ((c.count_probes-size.ensures.extent_is.clauses_is, c.count_probes-size.ensures.clauses_bound.0), omega (arith, (section_needs _ c.count_probes-size.ensures.extent_is.words_is), c.if-out-need.false))))).1.1.1
+write_probes-requires-clause-probe_in_bounds c = rw (front_is c.palette-k.ensures) (omega (arith, section_needs _ c.count_probes-size.ensures.extent_is.words_is, c.if-out-need.false))
 
 pub returns : goal.returns
 returns c = answers_wrote _ _ refl (omega (arith, (section_needs _ c.count_probes-size.ensures.extent_is.words_is), c.if-out-need.false)) (rw (front_is c.palette-k.ensures) at c.write_probes.ensures)
