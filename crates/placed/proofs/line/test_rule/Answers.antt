@@ -1,0 +1,38 @@
+use Rattle.placement.specs.Placement.{ruled}
+use Rattle.placed.proofs.line.test_rule.Goals as goal
+
+pub test_positions-requires-clause-sound : goal.test_positions-requires-clause-sound
+unfolding ruled
+test_positions-requires-clause-sound c = c.requires.sound
+
+pub test_positions-requires-clause-countable : goal.test_positions-requires-clause-countable
+unfolding ruled
+test_positions-requires-clause-countable c = rw c.in-Positions.is at c.requires.countable
+
+pub test_once-requires-clause-sound : goal.test_once-requires-clause-sound
+unfolding ruled
+test_once-requires-clause-sound c = c.requires.sound
+
+pub test_once-requires-clause-countable : goal.test_once-requires-clause-countable
+unfolding ruled
+test_once-requires-clause-countable c = rw c.in-Once.is at c.requires.countable
+
+pub test_overlaps-requires-clause-sound : goal.test_overlaps-requires-clause-sound
+unfolding ruled
+test_overlaps-requires-clause-sound c = c.requires.sound
+
+pub test_overlaps-requires-clause-countable : goal.test_overlaps-requires-clause-countable
+unfolding ruled
+test_overlaps-requires-clause-countable c = rw c.in-Overlap.is at c.requires.countable
+
+pub returns-in-Positions : goal.returns-in-Positions
+unfolding ruled
+returns-in-Positions c = rw c.in-Positions.is c.test_positions.ensures
+
+pub returns-in-Once : goal.returns-in-Once
+unfolding ruled
+returns-in-Once c = rw c.in-Once.is c.test_once.ensures
+
+pub returns-in-Overlap : goal.returns-in-Overlap
+unfolding ruled
+returns-in-Overlap c = rw c.in-Overlap.is c.test_overlaps.ensures
