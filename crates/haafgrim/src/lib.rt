@@ -1,10 +1,9 @@
-// The C entries: each hands its arguments to the crate that does the work, and the answer's number and place to the caller.
+// The entries: each hands its arguments to the crate that does the work, and the answer's number and place to the caller.
 #![tactic(auto)]
 
 ghost use Rattle.haafgrim.specs.Entries.{TwoPowers, FromTwoPowers, ReadLine, Starts, ColorRanges, ReadGrid, Transpose, Clauses, Counts, CheckModel, Blocking, Probes, Dimacs};
 
-#[unsafe(no_mangle)]
-pub extern "C" fn haafgrim_two_powers(mask: u32, out: &mut [u32], place: &mut usize) -> u32
+pub fn haafgrim_two_powers(mask: u32, out: &mut [u32], place: &mut usize) -> u32
     ensures { TwoPowers mask out.old result place.new out.new }
 {
     let answer = bits::powers::two_powers(mask, out);
@@ -12,15 +11,13 @@ pub extern "C" fn haafgrim_two_powers(mask: u32, out: &mut [u32], place: &mut us
     answer.number()
 }
 
-#[unsafe(no_mangle)]
-pub extern "C" fn haafgrim_from_two_powers(words: &[u32]) -> u32
+pub fn haafgrim_from_two_powers(words: &[u32]) -> u32
     ensures { FromTwoPowers words.now result }
 {
     bits::powers::from_two_powers(words)
 }
 
-#[unsafe(no_mangle)]
-pub extern "C" fn haafgrim_read_line(line: &[u8], out: &mut [u32], place: &mut usize) -> u32
+pub fn haafgrim_read_line(line: &[u8], out: &mut [u32], place: &mut usize) -> u32
     ensures { ReadLine line.now out.old result place.new out.new }
 {
     let answer = runs::line::read_line(line, out);
@@ -28,13 +25,7 @@ pub extern "C" fn haafgrim_read_line(line: &[u8], out: &mut [u32], place: &mut u
     answer.number()
 }
 
-#[unsafe(no_mangle)]
-pub extern "C" fn haafgrim_starts(
-    length: usize,
-    clue: &[u32],
-    out: &mut [u32],
-    place: &mut usize,
-) -> u32
+pub fn haafgrim_starts(length: usize, clue: &[u32], out: &mut [u32], place: &mut usize) -> u32
     ensures { Starts length clue.now out.old result place.new out.new }
 {
     let answer = lines::clue::starts(length, clue, out);
@@ -42,13 +33,7 @@ pub extern "C" fn haafgrim_starts(
     answer.number()
 }
 
-#[unsafe(no_mangle)]
-pub extern "C" fn haafgrim_color_ranges(
-    length: usize,
-    clue: &[u32],
-    out: &mut [u32],
-    place: &mut usize,
-) -> u32
+pub fn haafgrim_color_ranges(length: usize, clue: &[u32], out: &mut [u32], place: &mut usize) -> u32
     ensures { ColorRanges length clue.now out.old result place.new out.new }
 {
     let answer = ranges::range::color_ranges(length, clue, out);
@@ -56,8 +41,7 @@ pub extern "C" fn haafgrim_color_ranges(
     answer.number()
 }
 
-#[unsafe(no_mangle)]
-pub extern "C" fn haafgrim_read_grid(
+pub fn haafgrim_read_grid(
     width: usize,
     height: usize,
     grid: &[u8],
@@ -71,8 +55,7 @@ pub extern "C" fn haafgrim_read_grid(
     answer.number()
 }
 
-#[unsafe(no_mangle)]
-pub extern "C" fn haafgrim_transpose(
+pub fn haafgrim_transpose(
     width: usize,
     height: usize,
     grid: &[u8],
@@ -86,8 +69,7 @@ pub extern "C" fn haafgrim_transpose(
     answer.number()
 }
 
-#[unsafe(no_mangle)]
-pub extern "C" fn haafgrim_clauses(puzzle: &[u32], out: &mut [i32], place: &mut usize) -> u32
+pub fn haafgrim_clauses(puzzle: &[u32], out: &mut [i32], place: &mut usize) -> u32
     ensures { Clauses puzzle.now out.old result place.new out.new }
 {
     let answer = clauses::call::clauses(puzzle, out);
@@ -95,8 +77,7 @@ pub extern "C" fn haafgrim_clauses(puzzle: &[u32], out: &mut [i32], place: &mut 
     answer.number()
 }
 
-#[unsafe(no_mangle)]
-pub extern "C" fn haafgrim_counts(puzzle: &[u32], out: &mut [u64], place: &mut usize) -> u32
+pub fn haafgrim_counts(puzzle: &[u32], out: &mut [u64], place: &mut usize) -> u32
     ensures { Counts puzzle.now out.old result place.new out.new }
 {
     let answer = counts::call::counts(puzzle, out);
@@ -104,13 +85,7 @@ pub extern "C" fn haafgrim_counts(puzzle: &[u32], out: &mut [u64], place: &mut u
     answer.number()
 }
 
-#[unsafe(no_mangle)]
-pub extern "C" fn haafgrim_check_model(
-    puzzle: &[u32],
-    model: &[u8],
-    out: &mut [u8],
-    place: &mut usize,
-) -> u32
+pub fn haafgrim_check_model(puzzle: &[u32], model: &[u8], out: &mut [u8], place: &mut usize) -> u32
     ensures { CheckModel puzzle.now model.now out.old result place.new out.new }
 {
     let answer = models::call::check_model(puzzle, model, out);
@@ -118,13 +93,7 @@ pub extern "C" fn haafgrim_check_model(
     answer.number()
 }
 
-#[unsafe(no_mangle)]
-pub extern "C" fn haafgrim_blocking(
-    puzzle: &[u32],
-    model: &[u8],
-    out: &mut [i32],
-    place: &mut usize,
-) -> u32
+pub fn haafgrim_blocking(puzzle: &[u32], model: &[u8], out: &mut [i32], place: &mut usize) -> u32
     ensures { Blocking puzzle.now model.now out.old result place.new out.new }
 {
     let answer = models::call::blocking(puzzle, model, out);
@@ -132,13 +101,7 @@ pub extern "C" fn haafgrim_blocking(
     answer.number()
 }
 
-#[unsafe(no_mangle)]
-pub extern "C" fn haafgrim_probes(
-    puzzle: &[u32],
-    probe: &[u32],
-    out: &mut [i32],
-    place: &mut usize,
-) -> u32
+pub fn haafgrim_probes(puzzle: &[u32], probe: &[u32], out: &mut [i32], place: &mut usize) -> u32
     ensures { Probes puzzle.now probe.now out.old result place.new out.new }
 {
     let answer = implications::call::probes(puzzle, probe, out);
@@ -146,8 +109,7 @@ pub extern "C" fn haafgrim_probes(
     answer.number()
 }
 
-#[unsafe(no_mangle)]
-pub extern "C" fn haafgrim_dimacs(
+pub fn haafgrim_dimacs(
     variables: usize,
     sections: usize,
     words: &[i32],
