@@ -4,14 +4,15 @@
 ghost use Rattle.std.specs.Prelude.{◌≡◌, length};
 
 use encoding::program::encode;
-use libc::{STDIN_FILENO, STDOUT_FILENO};
+use std::io;
+use streams::read_full;
 
-fn main() {
+fn main(rt: HostRuntime) -> io::Result<()> {
     let mut input = input_buffer();
-    let n = io::read_full(STDIN_FILENO, &mut input);
+    let n = read_full(&mut rt.reader(), &mut input)?;
     let mut out = output_buffer();
     let used = encode(&input[..n], &mut out);
-    io::write_all(STDOUT_FILENO, &out[..used]);
+    rt.write_all(&out[..used])
 }
 
 // One byte more than the program takes, so that too long an input shows.

@@ -4,30 +4,37 @@ ghost use Rattle.std.specs.Prelude.{◌≡◌, ◌+◌, ◌≤◌, length};
 use cases::number::{at_most, index};
 use encoding::program::encode;
 use shows::show::show_bytes;
+use std::io;
+use std::io::Write;
 
-pub fn answer(room: usize, args: &[u32]) {
+pub fn answer<W: Write>(writer: &mut W, room: usize, args: &[u32]) -> io::Result<()> {
     if args.len() == 0 {
-        return;
+        return Ok(());
     }
     let mut input = input_buffer();
     let n = as_input(&args[1..], &mut input);
     let more = at_most(index(args[0]), 70000 - n);
-    tell(&input, n + more, room);
+    tell(writer, &input, n + more, room)
 }
 
-fn tell(bytes: &[u8], n: usize, room: usize)
+fn tell<W: Write>(writer: &mut W, bytes: &[u8], n: usize, room: usize) -> io::Result<()>
     requires { n ≤ length bytes.now }
 {
     let mut out = output_buffer();
     let used = encode(&bytes[0..n], &mut out);
-    show_front(&out, at_most(used, 65536), room);
+    show_front(writer, &out, at_most(used, 65536), room)
 }
 
 // The first n bytes: their checksum, and as many of them as there is room for.
-fn show_front(bytes: &[u8], n: usize, room: usize)
+fn show_front<W: Write>(writer: &mut W, bytes: &[u8], n: usize, room: usize) -> io::Result<()>
     requires { n ≤ length bytes.now }
 {
-    show_bytes(checksum(&bytes[0..n]), n, &bytes[0..at_most(room, n)]);
+    show_bytes(
+        writer,
+        checksum(&bytes[0..n]),
+        n,
+        &bytes[0..at_most(room, n)],
+    )
 }
 
 // More than the program takes.

@@ -5,18 +5,25 @@ ghost use Rattle.tables.specs.Layout.{table_size};
 use boards::board::{Board, Reading};
 use cases::number::{at_most, index, low};
 use shows::show::show;
+use std::io;
+use std::io::Write;
 use tables::layout::{LINE_SIZE, STARTS, TABLE_SIZE};
 
-pub fn answer(words: &[u32]) {
+pub fn answer<W: Write>(writer: &mut W, words: &[u32]) -> io::Result<()> {
     let mut table = [0u32; TABLE_SIZE];
     let reading = boards::board::read_puzzle(words, &mut table);
     match reading {
-        Reading::Read(board) => show_board(words, &table, board),
-        Reading::Refused(why) => show(why.number(), why.place(), words, 0),
+        Reading::Read(board) => show_board(writer, words, &table, board),
+        Reading::Refused(why) => show(writer, why.number(), why.place(), words, 0),
     }
 }
 
-fn show_board(words: &[u32], table: &[u32], board: Board) {
+fn show_board<W: Write>(
+    writer: &mut W,
+    words: &[u32],
+    table: &[u32],
+    board: Board,
+) -> io::Result<()> {
     let mut out = [0u32; 5 + TABLE_SIZE];
     out[0] = low(board.width);
     out[1] = low(board.height);
@@ -25,7 +32,7 @@ fn show_board(words: &[u32], table: &[u32], board: Board) {
     out[4] = board.colors;
     let lines = at_most(board.width, 64) + at_most(board.height, 64);
     let n = list_lines(words, table, lines, &mut out);
-    show(0, 0, &out, n);
+    show(writer, 0, 0, &out, n)
 }
 
 // The lines, behind the five numbers of the board; answers where they end.

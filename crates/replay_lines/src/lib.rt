@@ -10,31 +10,54 @@ use haafgrim::{
     haafgrim_starts, haafgrim_transpose, haafgrim_two_powers,
 };
 use shows::show::{show, show_bytes};
+use std::io;
+use std::io::Write;
 
 // A line and a grid are the same numbers as bytes.
-pub fn replay(entry: Entry, room: usize, args: &[u32]) {
+pub fn replay<W: Write>(writer: &mut W, entry: Entry, room: usize, args: &[u32]) -> io::Result<()> {
     let mut bytes = [0u8; 4200];
     let n = as_bytes(args, &mut bytes);
     match entry {
-        Entry::Transpose => transpose(room, args, &bytes, n),
-        _ => lend(entry, room, args, &bytes, n),
+        Entry::Transpose => transpose(writer, room, args, &bytes, n),
+        _ => lend(writer, entry, room, args, &bytes, n),
     }
 }
 
 // The buffer is full of sevens before, so that what stays untouched shows.
-fn lend(entry: Entry, room: usize, args: &[u32], bytes: &[u8], n: usize)
+fn lend<W: Write>(
+    writer: &mut W,
+    entry: Entry,
+    room: usize,
+    args: &[u32],
+    bytes: &[u8],
+    n: usize,
+) -> io::Result<()>
     requires { n ≤ length bytes.now }
 {
     let mut out = [7u32; 25600];
-    answer(entry, args, &bytes[0..n], &mut out, at_most(room, 25600));
+    answer(
+        writer,
+        entry,
+        args,
+        &bytes[0..n],
+        &mut out,
+        at_most(room, 25600),
+    )
 }
 
-fn answer(entry: Entry, args: &[u32], bytes: &[u8], out: &mut [u32], room: usize)
+fn answer<W: Write>(
+    writer: &mut W,
+    entry: Entry,
+    args: &[u32],
+    bytes: &[u8],
+    out: &mut [u32],
+    room: usize,
+) -> io::Result<()>
     requires { room ≤ length out.old }
 {
     let mut place = 0;
     let number = enter(entry, args, bytes, &mut out[0..room], &mut place);
-    show(number, place, out, room);
+    show(writer, number, place, out, room)
 }
 
 fn enter(entry: Entry, args: &[u32], bytes: &[u8], out: &mut [u32], place: &mut usize) -> u32 {
@@ -73,29 +96,43 @@ fn read_grid(args: &[u32], bytes: &[u8], out: &mut [u32], place: &mut usize) -> 
     haafgrim_read_grid(index(args[0]), index(args[1]), &bytes[2..], out, place)
 }
 
-fn transpose(room: usize, args: &[u32], bytes: &[u8], n: usize)
+fn transpose<W: Write>(
+    writer: &mut W,
+    room: usize,
+    args: &[u32],
+    bytes: &[u8],
+    n: usize,
+) -> io::Result<()>
     requires { n ≤ length bytes.now }
 {
     if args.len() < 2 {
-        return;
+        return Ok(());
     }
     if n < 2 {
-        return;
+        return Ok(());
     }
     let mut out = [7u8; 4200];
     turn(
+        writer,
         index(args[0]),
         index(args[1]),
         &bytes[2..n],
         &mut out,
         at_most(room, 4200),
-    );
+    )
 }
 
-fn turn(width: usize, height: usize, grid: &[u8], out: &mut [u8], room: usize)
+fn turn<W: Write>(
+    writer: &mut W,
+    width: usize,
+    height: usize,
+    grid: &[u8],
+    out: &mut [u8],
+    room: usize,
+) -> io::Result<()>
     requires { room ≤ length out.old }
 {
     let mut place = 0;
     let number = haafgrim_transpose(width, height, grid, &mut out[0..room], &mut place);
-    show_bytes(number, place, &out[0..room]);
+    show_bytes(writer, number, place, &out[0..room])
 }

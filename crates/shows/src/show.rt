@@ -2,53 +2,77 @@
 ghost use Rattle.std.specs.Prelude.{◌≤◌, ◌<◌, length};
 
 use crate::number::{HALF, byte, signed, word};
-use libc::STDOUT_FILENO;
+use std::io;
+use std::io::Write;
 
-pub fn show(number: u32, place: usize, words: &[u32], n: usize)
+pub fn show<W: Write>(
+    writer: &mut W,
+    number: u32,
+    place: usize,
+    words: &[u32],
+    n: usize,
+) -> io::Result<()>
     requires { n ≤ length words.now }
 {
     let mut numbers = [0u64; 25600];
     let count = of_words(&words[0..n], &mut numbers);
-    show_numbers(number, place, &numbers, count);
+    show_numbers(writer, number, place, &numbers, count)
 }
 
-pub fn show_bytes(number: u32, place: usize, bytes: &[u8]) {
+pub fn show_bytes<W: Write>(
+    writer: &mut W,
+    number: u32,
+    place: usize,
+    bytes: &[u8],
+) -> io::Result<()> {
     let mut numbers = [0u64; 4200];
     let n = of_bytes(bytes, &mut numbers);
-    show_numbers(number, place, &numbers, n);
+    show_numbers(writer, number, place, &numbers, n)
 }
 
-pub fn show_literals(number: u32, place: usize, words: &[i32]) {
+pub fn show_literals<W: Write>(
+    writer: &mut W,
+    number: u32,
+    place: usize,
+    words: &[i32],
+) -> io::Result<()> {
     let mut numbers = [0u64; 25600];
     let n = of_literals(words, &mut numbers);
-    show_numbers(number, place, &numbers, n);
+    show_numbers(writer, number, place, &numbers, n)
 }
 
-pub fn show_numbers(number: u32, place: usize, numbers: &[u64], n: usize)
+pub fn show_numbers<W: Write>(
+    writer: &mut W,
+    number: u32,
+    place: usize,
+    numbers: &[u64],
+    n: usize,
+) -> io::Result<()>
     requires { n ≤ length numbers.now }
 {
-    put(number as u64, 1);
-    put(place as u64, 1);
-    io::write_all(STDOUT_FILENO, b":");
-    show_runs(numbers, n);
-    io::write_all(STDOUT_FILENO, b"\n");
+    put(writer, number as u64, 1)?;
+    put(writer, place as u64, 1)?;
+    writer.write_all(b":")?;
+    show_runs(writer, numbers, n)?;
+    writer.write_all(b"\n")
 }
 
 // A number that comes four times or more is written once, with how often: `N*M`.
-fn show_runs(numbers: &[u64], n: usize)
+fn show_runs<W: Write>(writer: &mut W, numbers: &[u64], n: usize) -> io::Result<()>
     requires { n ≤ length numbers.now }
 {
     let mut from = 0;
     while from < n {
         let to = run_end(numbers, from, n);
         if to < from + 4 {
-            put(numbers[from], 1);
+            put(writer, numbers[from], 1)?;
             from += 1;
             continue;
         }
-        put(numbers[from], (to - from) as u64);
+        put(writer, numbers[from], (to - from) as u64)?;
         from = to;
     }
+    Ok(())
 }
 
 // Where the run of equal numbers that begins at `from` ends, within the first n.
@@ -66,23 +90,20 @@ fn run_end(numbers: &[u64], from: usize, n: usize) -> usize
     i
 }
 
-fn put(n: u64, times: u64) {
-    put_number(n);
+fn put<W: Write>(writer: &mut W, n: u64, times: u64) -> io::Result<()> {
+    put_number(writer, n)?;
     if times == 1 {
-        return;
+        return Ok(());
     }
-    io::write_all(STDOUT_FILENO, b"*");
-    io::print_decimal(STDOUT_FILENO, times);
+    write!(writer, "*{times}")
 }
 
-fn put_number(n: u64) {
+fn put_number<W: Write>(writer: &mut W, n: u64) -> io::Result<()> {
     if n < HALF {
-        io::write_all(STDOUT_FILENO, b" ");
-        io::print_decimal(STDOUT_FILENO, n);
-        return;
+        return write!(writer, " {n}");
     }
-    io::write_all(STDOUT_FILENO, b" -");
-    io::print_decimal(STDOUT_FILENO, n - HALF);
+    let magnitude = n - HALF;
+    write!(writer, " -{magnitude}")
 }
 
 fn of_bytes(bytes: &[u8], out: &mut [u64]) -> usize

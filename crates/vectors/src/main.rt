@@ -8,12 +8,16 @@ ghost use Rattle.std.specs.Prelude.{◌≡◌, ◌≤◌, length};
 
 use cases::entry::named;
 use cases::text::{find, numbers};
-use libc::{STDIN_FILENO, STDOUT_FILENO};
+use std::io;
+use std::io::{BufWriter, Write};
+use streams::read_full;
 
-fn main() {
+fn main(rt: HostRuntime) -> io::Result<()> {
     let mut input = input_buffer();
-    let n = io::read_full(STDIN_FILENO, &mut input);
-    answer_all(&input[..n]);
+    let n = read_full(&mut rt.reader(), &mut input)?;
+    let mut writer = BufWriter::new(rt.alloc(), io::writer(&rt))?;
+    answer_all(&mut writer, &input[..n])?;
+    writer.flush()
 }
 
 // Room for a megabyte of cases.
@@ -30,38 +34,40 @@ fn args_buffer() -> [u32; 1048832]
     [0; 1048832]
 }
 
-fn answer_all(input: &[u8]) {
+fn answer_all<W: Write>(writer: &mut W, input: &[u8]) -> io::Result<()> {
     let mut from = 0;
     while from < input.len() {
         let to = find(input, from, b'\n');
-        answer(&input[from..to]);
+        answer(writer, &input[from..to])?;
         from = to + 1;
     }
+    Ok(())
 }
 
 // The line, and under it the answer; a comment or an empty line has none.
-fn answer(line: &[u8]) {
-    io::write_all(STDOUT_FILENO, line);
-    io::write_all(STDOUT_FILENO, b"\n");
+fn answer<W: Write>(writer: &mut W, line: &[u8]) -> io::Result<()> {
+    writer.write_all(line)?;
+    writer.write_all(b"\n")?;
     if line.len() == 0 {
-        return;
+        return Ok(());
     }
     if line[0] == b'#' {
-        return;
+        return Ok(());
     }
     let name = find(line, 0, b' ');
     if name == line.len() {
-        return;
+        return Ok(());
     }
     let mut args = args_buffer();
     let n = numbers(&line[name + 1..], &mut args);
-    pass(&line[0..name], &args, n);
+    pass(writer, &line[0..name], &args, n)
 }
 
-fn pass(name: &[u8], args: &[u32], n: usize)
+fn pass<W: Write>(writer: &mut W, name: &[u8], args: &[u32], n: usize) -> io::Result<()>
     requires { n ≤ length args.now }
 {
     if 0 < n {
-        call::call(named(name), args[0], &args[1..n]);
+        call::call(writer, named(name), args[0], &args[1..n])?;
     }
+    Ok(())
 }

@@ -1,9 +1,0 @@
-use Prim.Native.Nat.{ℕ}
-use mathlib.Core.Path.{sym}
-use lib.ListN.{length-replicate}
-use Rattle.replay_inner.proofs.encode.output_buffer.Statement.{statement}
-use Rattle.replay_inner.proofs.encode.output_buffer.Tie as tie
-
-pub output_buffer_spec : {M : Type 1} → statement M
-output_buffer_spec = tie.close (tie.spec
-    (λ c. sym (length-replicate {0} {A = ℕ} 65536 0)))
