@@ -1,5 +1,4 @@
 use native.Mathlib.Omega.{arith}
-use Prim.Native.Nat.{◌-◌}
 use Rattle.lists.proofs.Emitting.{emit_kept}
 use Rattle.numbering.proofs.Palettes.{palette_first, palette_skip, palette_room, palette_next, palette_done}
 use Rattle.numbering.proofs.palette.Goals as goal

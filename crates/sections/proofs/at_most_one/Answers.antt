@@ -1,4 +1,3 @@
-use Prim.Native.Nat.{◌-◌}
 use native.Mathlib.Omega.{arith}
 use Rattle.lists.proofs.Emitting.{emit_room, emit_next, emit_kept}
 use Rattle.sections.proofs.Rows.{once_first, once_done}

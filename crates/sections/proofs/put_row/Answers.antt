@@ -1,6 +1,5 @@
 use Rattle.sections.proofs.Rows.{row_first, row_done, two_room}
 use native.Mathlib.Omega.{arith}
-use Prim.Native.Nat.{◌-◌}
 use Rattle.lists.proofs.Emitting.{emit_room, emit_next, emit_kept}
 use Rattle.literals.proofs.Words.{word_is}
 use Rattle.sections.proofs.ClauseLists.{said}

@@ -1,5 +1,4 @@
 use native.Mathlib.Omega.{arith}
-use Prim.Native.Nat.{◌-◌}
 use Rattle.lists.proofs.Emitting.{emit_room, emit_next, emit_kept}
 use Rattle.lists.proofs.Writing.{wrote_store}
 use Rattle.literals.proofs.Words.{word_is}

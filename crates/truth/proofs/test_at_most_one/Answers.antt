@@ -1,7 +1,6 @@
 use Rattle.truth.proofs.RowTests.{once_first}
 use Rattle.truth.proofs.Testing.{testing_room, testing_stop, testing_next, testing_done}
 use native.Mathlib.Omega.{arith}
-use Prim.Native.Nat.{◌-◌}
 use Rattle.truth.proofs.test_at_most_one.Goals as goal
 
 pub loop-i-init : goal.loop-i-init

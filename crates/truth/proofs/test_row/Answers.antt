@@ -1,7 +1,6 @@
 use mathlib.Core.Path.{sym, ◌∙◌}
 use Rattle.truth.proofs.RowTests.{row_off, row_first, row_stop, row_next, row_done}
 use native.Mathlib.Omega.{arith}
-use Prim.Native.Nat.{◌-◌}
 use Rattle.truth.proofs.test_row.Goals as goal
 
 pub on-requires : goal.on-requires

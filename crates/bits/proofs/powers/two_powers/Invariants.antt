@@ -1,4 +1,4 @@
-use Prim.Native.Nat.{◌-◌, ◌<◌, ◌^◌}
+use Prim.Native.Nat.{◌<◌, ◌^◌}
 use Rattle.lists.proofs.Writing.{Filling}
 use Rattle.bits.specs.Bits.{powers}
 use Rattle.bits.proofs.powers.two_powers.Given as goal

@@ -1,5 +1,4 @@
 use Rattle.boards.proofs.Coloring.{knowing_first, knowing_not, knowing_next, knowing_done}
-use Prim.Native.Nat.{◌-◌}
 use mathlib.Core.Path.{sym, ◌∙◌}
 use Rattle.boards.proofs.colors.all_known.Goals as goal
 

@@ -1,6 +1,4 @@
-use Rattle.puzzles.specs.Colors.{off_solved}
 use Rattle.refusals.proofs.Offending.{searching_first, searching_found, searching_next, searching_done}
-use Prim.Native.Nat.{◌-◌}
 use native.Mathlib.Omega.{arith}
 use mathlib.Core.Path.{refl, sym, ◌∙◌}
 use borrow.Author.Rules.{rules}

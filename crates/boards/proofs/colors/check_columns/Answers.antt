@@ -3,7 +3,7 @@ use Rattle.boards.proofs.Coloring.{known_found}
 use Rattle.puzzles.specs.Checks as C
 use Rattle.puzzles.specs.Puzzle as P
 use Rattle.refusals.proofs.Offending.{searching_first, searching_found, searching_next, searching_done}
-use Prim.Native.Nat.{◌-◌, ◌<◌}
+use Prim.Native.Nat.{◌<◌}
 use native.Mathlib.Omega.{arith}
 use mathlib.Core.Bool.{not}
 use mathlib.Core.Path.{sym, ap, ◌∙◌}

@@ -2,7 +2,7 @@ use Rattle.puzzles.proofs.Accepting.{sizes}
 use Rattle.boards.proofs.Coloring.{joining_first, joining_next, joined_none, joined_some}
 use Rattle.puzzles.specs.Checks as C
 use Rattle.puzzles.specs.Puzzle as P
-use Prim.Native.Nat.{◌-◌, ◌<◌}
+use Prim.Native.Nat.{◌<◌}
 use native.Mathlib.Omega.{arith}
 use mathlib.Core.Path.{refl}
 use Rattle.boards.proofs.colors.row_colors.Goals as goal

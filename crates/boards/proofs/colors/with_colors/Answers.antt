@@ -1,5 +1,4 @@
 use Rattle.boards.proofs.Coloring.{gathering_first, gathering_next, gathering_done}
-use Prim.Native.Nat.{◌-◌}
 use Rattle.boards.proofs.colors.with_colors.Goals as goal
 
 pub loop-i-init : goal.loop-i-init

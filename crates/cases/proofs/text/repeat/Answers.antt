@@ -1,4 +1,3 @@
-use Prim.Native.Nat.{◌-◌}
 use lib.ListN.{length-set}
 use borrow.Author.Rules.{rules}
 use Rattle.cases.proofs.text.repeat.Goals as goal

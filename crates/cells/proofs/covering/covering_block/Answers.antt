@@ -1,7 +1,6 @@
 use mathlib.Core.Path.{◌≡◌, sym, ◌∙◌}
 use mathlib.Core.Bool.{true}
 use native.Mathlib.Omega.{arith}
-use Prim.Native.Nat.{◌-◌}
 use Rattle.lines.specs.Arrangement.{moved, covers}
 use Rattle.lines.specs.Runs.{run}
 use Rattle.lists.proofs.Emitting.{emit_kept}

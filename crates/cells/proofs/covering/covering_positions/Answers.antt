@@ -1,6 +1,5 @@
 use mathlib.Core.Path.{refl}
 use native.Mathlib.Omega.{arith}
-use Prim.Native.Nat.{◌-◌}
 use Rattle.lines.specs.Runs.{run}
 use Rattle.lists.proofs.Emitting.{emit_kept}
 use Rattle.cells.proofs.LinePositions.{BlockRead, searching_first, searching_other, block_within, searching_room, searching_next, searching_done}

@@ -2,7 +2,6 @@ use Rattle.cells.proofs.BoardCells.{given_shows, cell_place, cell_variables}
 use Rattle.cells.proofs.ByColumn.{coloring_first, color_variable, coloring_room, coloring_next, coloring_done}
 use mathlib.Core.Path.{refl}
 use native.Mathlib.Omega.{arith}
-use Prim.Native.Nat.{◌-◌}
 use Rattle.lists.proofs.Emitting.{emit_kept}
 use Rattle.cells.proofs.section.cell_clauses.Goals as goal
 

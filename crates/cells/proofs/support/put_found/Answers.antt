@@ -1,6 +1,5 @@
 use native.Mathlib.Omega.{arith}
 use mathlib.Core.Path.{refl}
-use Prim.Native.Nat.{◌-◌}
 use Rattle.lists.proofs.Emitting.{emit_room, emit_next, emit_kept}
 use Rattle.lists.proofs.Writing.{wrote_store}
 use Rattle.literals.proofs.Words.{word_is}

@@ -1,6 +1,5 @@
 use native.Mathlib.Omega.{arith}
 use native.Mathlib.Nat.{mul-le-mul_left}
-use Prim.Native.Nat.{◌-◌}
 use Rattle.counts.specs.Formulas.{over_lines}
 use Rattle.counts.proofs.Bounded.{most_most}
 use Rattle.counts.proofs.Summing.{summing_next, summing_most, summing_done}

@@ -1,5 +1,4 @@
 use native.Mathlib.Omega.{arith}
-use Prim.Native.Nat.{◌-◌}
 use Rattle.lists.specs.Each.{sum_pairs}
 use Rattle.numbering.proofs.SoundLines.{of_many, sound_shared, sound_some}
 use Rattle.counts.specs.Formulas.{overlap_at, overlap_in}

@@ -1,5 +1,4 @@
 use native.Mathlib.Omega.{arith}
-use Prim.Native.Nat.{◌-◌}
 use mathlib.Core.Path.{◌∙◌}
 use Rattle.numbering.proofs.SoundLines.{of_many, of_size, sound_shared, sound_some}
 use Rattle.counts.proofs.Summing.{summing_next, summing_most, summing_done}

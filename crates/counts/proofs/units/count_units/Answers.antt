@@ -1,5 +1,4 @@
 use native.Mathlib.Omega.{arith}
-use Prim.Native.Nat.{◌-◌}
 use Rattle.counts.proofs.Summing.{summing_next, summing_most, summing_done}
 use Rattle.counts.proofs.Countings.{units_first}
 use Rattle.counts.proofs.units.count_units.Goals as goal

@@ -1,5 +1,4 @@
 use mathlib.Core.Path.{refl}
-use Prim.Native.Nat.{◌-◌}
 use native.Mathlib.Omega.{arith}
 use Rattle.lists.proofs.Emitting.{emit_kept, emit_room}
 use Rattle.encoding.proofs.InputWords.{words_first, words_next, words_done}

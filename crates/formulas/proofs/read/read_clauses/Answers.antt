@@ -1,7 +1,6 @@
 use Rattle.refusals.proofs.Passing.{passing_first, passing_low, passing_next, passing_stop, passing_done}
 use Rattle.formulas.proofs.Readers.{clause_reader}
 use native.Mathlib.Omega.{arith}
-use Prim.Native.Nat.{◌-◌}
 use Rattle.formulas.proofs.read.read_clauses.Goals as goal
 
 pub loop-k-init : goal.loop-k-init

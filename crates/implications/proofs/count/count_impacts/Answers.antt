@@ -1,4 +1,3 @@
-use Prim.Native.Nat.{◌-◌}
 use native.Mathlib.Omega.{arith}
 use Rattle.counts.proofs.Summing.{summing_next, summing_most}
 use Rattle.implications.proofs.ProbeSizes.{counts_first, counts_done}

@@ -1,7 +1,6 @@
 use Rattle.probes.proofs.AcceptedProbes.{accepted_probes}
 use Rattle.implications.proofs.Counting.{counting_first, counting_next, counting_done, counted_most}
 use native.Mathlib.Omega.{arith}
-use Prim.Native.Nat.{◌-◌}
 use Rattle.implications.proofs.ProbePlaces.{first_is, count_within, next_within, slice_length, slice_known}
 use Rattle.implications.proofs.count.count_probes.Goals as goal
 

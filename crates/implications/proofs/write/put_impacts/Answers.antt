@@ -1,4 +1,3 @@
-use Prim.Native.Nat.{◌-◌}
 use Rattle.lists.proofs.Emitting.{emit_kept, emit_room, emit_next}
 use Rattle.implications.proofs.ProbeClauses.{impacts_first, impacts_done}
 use Rattle.implications.proofs.write.put_impacts.Goals as goal

@@ -1,5 +1,4 @@
 use native.Mathlib.Omega.{arith}
-use Prim.Native.Nat.{◌-◌}
 use Rattle.lists.proofs.Writing.{fill_kept}
 use Rattle.lines.proofs.ClueWords.{starting_first, starting_room, starting_next, starting_done, walk_low}
 use Rattle.lines.proofs.clue.block_starts.Goals as goal

@@ -1,5 +1,4 @@
 use mathlib.Core.Path.{refl, sym, ◌∙◌}
-use Prim.Native.Nat.{◌-◌}
 use Rattle.lines.proofs.ClueWords.{check_size, check_color, check_next, check_done}
 use borrow.Author.Rules.{rules}
 use Rattle.lines.proofs.clue.check_blocks.Goals as goal

@@ -1,5 +1,4 @@
 use native.Mathlib.Omega.{arith}
-use Prim.Native.Nat.{◌-◌}
 use Rattle.lines.proofs.ClueWords.{walk_first, walk_next, walk_done}
 use borrow.Author.Rules.{rules}
 use Rattle.lines.proofs.clue.min_space.Goals as goal

@@ -1,4 +1,4 @@
-use Prim.Native.Nat.{◌+◌, ◌-◌, ◌*◌}
+use Prim.Native.Nat.{◌+◌, ◌*◌}
 use native.Mathlib.Omega.{arith}
 use Rattle.lists.proofs.Emitting.{emit_room, emit_next, emit_kept}
 use Rattle.sections.proofs.ClauseLists.{said, clauses_one}

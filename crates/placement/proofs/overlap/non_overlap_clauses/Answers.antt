@@ -1,4 +1,3 @@
-use Prim.Native.Nat.{◌-◌}
 use Rattle.lists.proofs.Emitting.{emit_room, emit_next, emit_kept}
 use Rattle.placement.proofs.BlockLoops.{overlaps_first, overlaps_done}
 use Rattle.placement.proofs.overlap.non_overlap_clauses.Goals as goal

@@ -1,4 +1,3 @@
-use Prim.Native.Nat.{◌-◌}
 use native.Mathlib.Omega.{arith}
 use Rattle.lists.proofs.Emitting.{from_room, from_next, from_kept}
 use Rattle.placement.proofs.RowLaw.{rows_first, rows_done}

@@ -1,5 +1,4 @@
 use native.Mathlib.Omega.{arith}
-use Prim.Native.Nat.{◌-◌}
 use Rattle.lines.proofs.ClueWords.{walk_low}
 use Rattle.ranges.proofs.Ranges.{spanning_first, spanning_walk, spanning_other, spanning_later, spanning_found, spanning_done, spanning_low}
 use Rattle.ranges.proofs.range.color_span.Goals as goal

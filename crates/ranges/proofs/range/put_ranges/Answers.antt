@@ -1,5 +1,4 @@
 use native.Mathlib.Omega.{arith}
-use Prim.Native.Nat.{◌-◌}
 use Rattle.lists.proofs.Emitting.{emit_first, emit_kept, emit_next, emit_done}
 use Rattle.lines.specs.Clue.{blocks, gap, packed}
 use Rattle.ranges.proofs.Ranges.{ranges_length, pair_room}

@@ -3,7 +3,7 @@ use Rattle.puzzles.proofs.Accepting.{walked_sections, size_some}
 use Rattle.lines.proofs.Checks.{size_within}
 use Rattle.puzzles.specs.Checks.{puzzle}
 use Rattle.puzzles.specs.Puzzle as P
-use Prim.Native.Nat.{◌-◌, ◌<◌}
+use Prim.Native.Nat.{◌<◌}
 use native.Mathlib.Omega.{arith}
 use mathlib.Core.Path.{◌≡◌, refl, ◌∙◌}
 use Rattle.tables.proofs.table.lay_lines.Goals as goal
