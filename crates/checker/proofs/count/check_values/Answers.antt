@@ -1,5 +1,4 @@
 use Rattle.refusals.proofs.Offending.{searching_first, searching_found, searching_next, searching_done}
-use Prim.Native.Nat.{◌-◌}
 use native.Mathlib.Omega.{arith}
 use borrow.Author.Tests.{lt-ltb, le-ltb}
 use Rattle.checker.proofs.count.check_values.Goals as goal

@@ -1,6 +1,5 @@
 use mathlib.Core.Path.{◌∙◌}
 use native.Mathlib.Omega.{arith}
-use Prim.Native.Nat.{◌-◌}
 use Rattle.lists.proofs.Writing.{fill_kept}
 use Rattle.runs.proofs.LineCells.{running_first, running_same, running_room, running_next, running_room_last, running_done, strided_in, strided_out, strided_cell}
 use Rattle.runs.proofs.line.put_runs.Goals as goal
