@@ -6,7 +6,7 @@ use native.Mathlib.Omega.{arith}
 use lib.ListN.{length-append}
 use Rattle.sections.specs.Sections.{Clause}
 use Rattle.truth.specs.Tested.{Countable}
-use Rattle.puzzles.specs.Puzzle.{Puzzle, width, height, lines}
+use Rattle.puzzles.specs.Puzzle.{Puzzle, lines}
 use Rattle.puzzles.specs.Good.{Good}
 use Rattle.boards.specs.Reading.{Stands}
 use Rattle.boards.specs.declared.board.Board.{Board}

@@ -2,7 +2,6 @@ use Rattle.checker.proofs.Counting.{pairing_found, pairing_next, pairing_done}
 use Rattle.refusals.proofs.Offending.{searching_first}
 use Rattle.lists.proofs.Parts.{part_within}
 use Rattle.truth.specs.Truth.{value}
-use Prim.Native.Nat.{◌-◌}
 use native.Mathlib.Omega.{arith}
 use Rattle.checker.proofs.count.check_cells.Goals as goal
 

@@ -1,7 +1,6 @@
 use Rattle.checker.proofs.Counting.{trues_none, trues_on, trues_off, trues_most}
 use Rattle.truth.specs.Truth.{value}
 use mathlib.Core.Path.{◌≡◌, sym, ◌∙◌}
-use Prim.Native.Nat.{◌-◌}
 use native.Mathlib.Omega.{arith}
 use Rattle.checker.proofs.count.count_true.Goals as goal
 

@@ -1,6 +1,5 @@
 use mathlib.Core.Path.{refl}
 use native.Mathlib.Omega.{arith}
-use Prim.Native.Nat.{◌-◌}
 use lib.IntN.{pos}
 use lib.ListN.{drop_of_length-le}
 use Rattle.lists.proofs.Dropping.{drop_one}

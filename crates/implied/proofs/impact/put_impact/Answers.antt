@@ -1,6 +1,5 @@
 use mathlib.Core.Path.{refl}
 use native.Mathlib.Omega.{arith}
-use Prim.Native.Nat.{◌-◌}
 use Rattle.lists.proofs.Emitting.{emit_kept, emit_room, emit_next}
 use Rattle.implied.proofs.CellClauses.{impact_first, impact_done}
 use Rattle.implied.proofs.impact.put_impact.Goals as goal

@@ -3,7 +3,6 @@ use Rattle.literals.proofs.Words.{word_is}
 use Rattle.lists.proofs.Emitting.{emit_kept}
 use Rattle.truth.specs.Truth.{value}
 use mathlib.Core.Path.{sym, ◌∙◌}
-use Prim.Native.Nat.{◌-◌}
 use native.Mathlib.Omega.{arith}
 use Rattle.models.proofs.block.put_negated.Goals as goal
 

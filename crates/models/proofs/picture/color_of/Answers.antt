@@ -1,6 +1,5 @@
 use Rattle.models.proofs.Showing.{looking_first, looking_on, looking_off, looking_none}
 use mathlib.Core.Path.{sym, ◌∙◌}
-use Prim.Native.Nat.{◌-◌}
 use native.Mathlib.Omega.{arith}
 use Rattle.models.proofs.picture.color_of.Goals as goal
 

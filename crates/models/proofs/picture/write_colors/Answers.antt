@@ -2,7 +2,6 @@ use Rattle.models.proofs.Showing.{coloring_first, coloring_room, coloring_next, 
 use Rattle.lists.proofs.Emitting.{emit_kept}
 use Rattle.lists.proofs.Parts.{part_within}
 use Rattle.truth.specs.Truth.{value}
-use Prim.Native.Nat.{◌-◌}
 use lib.ListN.{length}
 use native.Mathlib.Omega.{arith}
 use Rattle.models.proofs.picture.write_colors.Goals as goal

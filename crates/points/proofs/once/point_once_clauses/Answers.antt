@@ -1,5 +1,4 @@
 use native.Mathlib.Omega.{arith}
-use Prim.Native.Nat.{◌-◌}
 use Rattle.lists.proofs.Emitting.{emit_kept, emit_room, emit_next}
 use Rattle.cells.proofs.BoardCells.{cell_place, cell_variables}
 use Rattle.points.proofs.PointCells.{once_first, once_done}

@@ -3,7 +3,6 @@ use lib.ListN.{length-set}
 use Rattle.points.proofs.PointCells.{once_same, columns_once}
 use mathlib.Core.Path.{refl, ap, ◌∙◌}
 use native.Mathlib.Omega.{arith}
-use Prim.Native.Nat.{◌-◌}
 use lib.IntN.{pos}
 use Rattle.literals.proofs.Words.{word_is}
 use Rattle.sections.proofs.Section.{count_room, count_first, count_done}

@@ -1,7 +1,6 @@
 use Rattle.points.proofs.PointCells.{mask_first, mask_done}
 use mathlib.Core.Path.{refl}
 use native.Mathlib.Omega.{arith}
-use Prim.Native.Nat.{◌-◌}
 use Rattle.lists.proofs.Emitting.{emit_kept, emit_room, emit_next}
 use Rattle.points.proofs.precomputed.precomputed_cell.Goals as goal
 

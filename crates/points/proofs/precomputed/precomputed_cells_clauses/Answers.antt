@@ -1,6 +1,5 @@
 use mathlib.Core.Path.{refl}
 use native.Mathlib.Omega.{arith}
-use Prim.Native.Nat.{◌-◌}
 use lib.ListN.{length}
 use Rattle.lists.proofs.Emitting.{emit_kept, emit_room, emit_next}
 use Rattle.lists.proofs.Parts.{part_within}

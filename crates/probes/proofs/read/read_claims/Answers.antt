@@ -1,6 +1,5 @@
 use Rattle.refusals.proofs.Passing.{passing_first, passing_low, passing_next, passing_stop, passing_done}
 use Rattle.probes.proofs.ProbeReaders.{claim_reader}
-use Prim.Native.Nat.{◌-◌}
 use native.Mathlib.Omega.{arith}
 use Rattle.probes.proofs.read.read_claims.Goals as goal
 

@@ -1,6 +1,5 @@
 use Rattle.refusals.proofs.Passing.{passing_first, passing_low, passing_next, passing_stop, passing_done}
 use Rattle.probes.proofs.ProbeReaders.{probe_reader}
-use Prim.Native.Nat.{◌-◌}
 use native.Mathlib.Omega.{arith}
 use Rattle.probes.proofs.read.read_probe_list.Goals as goal
 

@@ -113,7 +113,7 @@ returns-then-end-at c = let columns_are : Lines c.args.at c.args.part.now c.args
     section_read lines_reader _ _ _ (omega (arith, C.place_is)) C.within c.in-Accepted-read.is (rw (tail_is _ _) at c.read_lines-read.ensures) in
     let R = rows_are in
     section_read (cells_reader _) _ _ _ (omega (arith, R.low, R.place_is)) R.within c.in-Accepted-masks.is (rw (tail_is _ _) at c.read_cells-masks.ensures) in
-    left_over _ _ (columns_are) (rows_are) c.wide.ensures c.wide-2.ensures (cells_are) c.if-end-at.true
+    left_over _ _ (columns_are) (rows_are) c.wide.ensures c.wide-2.ensures (cells_are) (omega arith)
 
 pub returns : goal.returns
 returns c = let columns_are : Lines c.args.at c.args.part.now c.args.at c.in-Accepted.rows = columns_read _ _ c.in-Accepted.is c.read_lines-columns.ensures in
@@ -125,4 +125,4 @@ returns c = let columns_are : Lines c.args.at c.args.part.now c.args.at c.in-Acc
     section_read lines_reader _ _ _ (omega (arith, C.place_is)) C.within c.in-Accepted-read.is (rw (tail_is _ _) at c.read_lines-read.ensures) in
     let R = rows_are in
     section_read (cells_reader _) _ _ _ (omega (arith, R.low, R.place_is)) R.within c.in-Accepted-masks.is (rw (tail_is _ _) at c.read_cells-masks.ensures) in
-    sections_are _ _ (columns_are) (rows_are) c.wide.ensures c.wide-2.ensures (cells_are) c.if-end-at.false
+    sections_are _ _ (columns_are) (rows_are) c.wide.ensures c.wide-2.ensures (cells_are) (omega arith)

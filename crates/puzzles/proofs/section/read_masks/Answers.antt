@@ -1,6 +1,5 @@
 use Rattle.refusals.proofs.Passing.{passing_first, passing_low, passing_next, passing_stop, passing_done}
 use Rattle.puzzles.proofs.Readers.{mask_reader}
-use Prim.Native.Nat.{◌-◌}
 use native.Mathlib.Omega.{arith}
 use Rattle.puzzles.proofs.section.read_masks.Goals as goal
 

@@ -1,6 +1,5 @@
 use mathlib.Core.Path.{refl}
 use native.Mathlib.Omega.{arith}
-use Prim.Native.Nat.{◌-◌}
 use Rattle.runs.proofs.LineCells.{counting_first, counting_next, counting_done}
 use borrow.Author.Rules.{rules}
 use Rattle.runs.proofs.line.count_words.Goals as goal

@@ -1,6 +1,5 @@
 use mathlib.Core.Path.{refl}
 use native.Mathlib.Omega.{arith}
-use Prim.Native.Nat.{◌-◌}
 use Rattle.lines.proofs.Checks.{topped_first, topped_below, topped_above, topped_done}
 use borrow.Author.Rules.{rules}
 use Rattle.runs.proofs.line.largest.Goals as goal

@@ -1,6 +1,5 @@
 use mathlib.Core.Path.{◌∙◌}
 use native.Mathlib.Omega.{arith}
-use Prim.Native.Nat.{◌-◌}
 use Rattle.lists.proofs.Writing.{fill_kept}
 use Rattle.runs.proofs.LineCells.{running_first, running_same, running_room, running_next, running_room_last, running_done, strided_in, strided_out, strided_cell}
 use Rattle.runs.proofs.line.put_runs.Goals as goal
@@ -22,7 +21,7 @@ overflow_add-size c = omega (arith, c.loop-i.invariant.small, c.requires.0.few)
 
 pub loop-i-preserved-then-next-color : goal.loop-i-preserved-then-next-color
 loop-i-preserved-then-next-color c = let h = c.loop-i-test.true in
-    running_same c.loop-i.invariant (strided_in _ _ _ _ h) (strided_cell _ _ _ _ _ h) c.if-next-color.true
+    running_same c.loop-i.invariant (strided_in _ _ _ _ h) (strided_cell _ _ _ _ _ h) (omega arith)
 
 pub put_run-to-requires : goal.put_run-to-requires
 put_run-to-requires c = let h = c.loop-i-test.true in
