@@ -1,4 +1,4 @@
-/* Haafgrim: the checked core of puzzle publishing. Link with libhaafgrim.a (`rt staticlib haafgrim`).
+/* Haafgrim: the checked core of puzzle publishing. Link with libhaafgrim.a (`tools/library` makes it).
  *
  * Every entry takes any input at all and needs no earlier call. It answers a number and, through `place`, a place:
  *   0        accepted; the place is how many words or bytes were written, from the front of `out` on, and the rest of `out` is as it was;
