@@ -8,7 +8,7 @@ use Rattle.puzzles.proofs.Accepting.{sizes, accepted_sectioned}
 use Rattle.boards.proofs.Boards.{width_word, height_word, width_some, height_some, rows_within, rows_found, cells_found}
 use Rattle.boards.proofs.board.board_of.Goals as goal
 
--- the last line
+-- `last_is` in these answers: the last line
 
 pub bounds-words-0 : goal.bounds-words-0
 bounds-words-0 c = let sectioned : C.Sectioned c.args.words.now = accepted_sectioned _ c.requires.passed_value.0 in

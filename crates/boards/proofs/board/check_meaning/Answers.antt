@@ -7,7 +7,7 @@ use native.Mathlib.Omega.{arith}
 use mathlib.Core.Path.{◌≡◌, ap, ◌∙◌}
 use Rattle.boards.proofs.board.check_meaning.Goals as goal
 
--- the lines have room, and the cells begin where they end
+-- `spaced` in these answers: the lines have room, and the cells begin where they end
 
 pub returns-in_default-clause-result_value : goal.returns-in_default-clause-result_value
 returns-in_default-clause-result_value c = (spaces_off _ c.lay_lines-laid.ensures.result_value c.in_default.is {X = ⊥}).0

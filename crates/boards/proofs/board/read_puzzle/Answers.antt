@@ -7,7 +7,7 @@ use native.Mathlib.Omega.{arith}
 use mathlib.Core.Path.{◌≡◌, sym, ap, ◌∙◌}
 use Rattle.boards.proofs.board.read_puzzle.Goals as goal
 
--- the words are accepted, and what was told is their colour set
+-- `checked_is` in these answers: the words are accepted, and what was told is their colour set
 
 pub overflow_cast-colors : goal.overflow_cast-colors
 overflow_cast-colors c = let checked_is : (passed ≡ C.puzzle_checks c.args.words.now) × (c.in-Accepted.colors ≡ C.colors (C.puzzle c.args.words.now)) = let r = c.in-Accepted.is in

@@ -11,9 +11,9 @@ use Rattle.colored.proofs.CoveredTests.{seeking_first, seeking_next, Found, foun
 use borrow.Author.Rules.{rules}
 use Rattle.colored.proofs.support.test_support.Goals as goal
 
--- the positions that were found
+-- `found` in these answers: the positions that were found
 
--- the cell has the colour
+-- `on` in these answers: the cell has the colour
 
 pub clauses-init : goal.clauses-init
 clauses-init c = sides_first _ _ _ _ _ _ _ _

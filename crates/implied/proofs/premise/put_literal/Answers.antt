@@ -10,7 +10,7 @@ use Rattle.implied.specs.ByWords.{premise_literal, premise_at}
 use Rattle.implied.proofs.CellClauses.{premise_blank, premise_color, premise_other}
 use Rattle.implied.proofs.premise.put_literal.Goals as goal
 
--- blank, or this colour
+-- `one` in these answers: blank, or this colour
 
 pub bounds-out-at : goal.bounds-out-at
 bounds-out-at c = let one : premise_at c.args.color c.args.hue c.args.u ≡ premise_literal c.args.color c.args.u ∷ [] = ⊎_elim (λ w. premise_blank _ _ _ w) (λ w. premise_color _ _ _ w.0 (eq-eqb c.args.hue c.args.color w.1)) c.then-color-eq0.either in

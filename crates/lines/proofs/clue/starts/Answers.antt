@@ -7,7 +7,7 @@ use Rattle.lines.proofs.ClueWords.{starts_words_length, starts_wrote}
 use borrow.Author.Rules.{rules}
 use Rattle.lines.proofs.clue.starts.Goals as goal
 
--- the clue is accepted
+-- `ok` in these answers: the clue is accepted
 
 pub returns-in_default : goal.returns-in_default
 returns-in_default c = answers_refused _ _ c.in_default.is (told_checks _ _ c.in_default.is c.check_clue-checked.ensures)

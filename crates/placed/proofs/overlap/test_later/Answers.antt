@@ -10,7 +10,7 @@ use Rattle.placement.proofs.BlockLoops.{pair_is}
 use Rattle.placed.proofs.BlockTests.{Has, has_block, later_rest}
 use Rattle.placed.proofs.overlap.test_later.Goals as goal
 
--- the pair's rows, by the distance that was found
+-- `pair` in these answers: the pair's rows, by the distance that was found
 
 pub overflow_step-b : goal.overflow_step-b
 overflow_step-b c = omega (arith, c.requires.a_in_bounds)

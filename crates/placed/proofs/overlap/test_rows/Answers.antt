@@ -4,8 +4,6 @@ use Rattle.truth.proofs.RowTests.{row_length}
 use Rattle.placed.proofs.BlockTests.{rows_rest}
 use Rattle.placed.proofs.overlap.test_rows.Goals as goal
 
--- the room for a row's places is told by its length alone, whatever its variables
-
 pub loop-i-init : goal.loop-i-init
 loop-i-init c = (omega arith, testing_from _ _ _ _ _ _ (rows_rest _ _ _ _))
 
@@ -15,6 +13,7 @@ overflow_sub-i c = omega (arith, c.loop-i.invariant.0)
 pub test_row-row-requires-clause-x_nonzero : goal.test_row-row-requires-clause-x_nonzero
 test_row-row-requires-clause-x_nonzero c = (omega arith, omega (arith, c.loop-i-test.true), omega arith, omega (arith, c.loop-i.invariant.0, c.loop-i-test.true))
 
+-- the room for a row's places is told by its length alone, whatever its variables
 pub test_row-row-requires-clause-countable : goal.test_row-row-requires-clause-countable
 test_row-row-requires-clause-countable c = rw row_length (rw row_length at (testing_room c.loop-i.invariant.1 c.loop-i-test.true c.requires.countable))
 

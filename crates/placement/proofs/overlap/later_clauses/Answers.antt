@@ -8,7 +8,7 @@ use Rattle.placement.specs.PairRows.{rows_from}
 use Rattle.placement.proofs.BlockLoops.{InRange, in_range, pair_is, later_first, later_done}
 use Rattle.placement.proofs.overlap.later_clauses.Goals as goal
 
--- the pair's rows, by the distance that was found
+-- `pair` in these answers: the pair's rows, by the distance that was found
 
 pub overflow_step-b : goal.overflow_step-b
 overflow_step-b c = omega (arith, c.requires.a_in_bounds)

@@ -5,7 +5,7 @@ use Rattle.lines.proofs.Checks.{ClueOk, clue_ok}
 use Rattle.ranges.proofs.Ranges.{ranges_words_length, ranges_wrote}
 use Rattle.ranges.proofs.range.color_ranges.Goals as goal
 
--- the clue is accepted
+-- `ok` in these answers: the clue is accepted
 
 pub returns-in_default : goal.returns-in_default
 returns-in_default c = answers_refused _ _ c.in_default.is (told_checks _ _ c.in_default.is c.check_clue-checked.ensures)
