@@ -7,5 +7,6 @@ use Rattle.bits.proofs.mask.set.Goals as goal
 
 pub returns : goal.returns
 unfolding with_bit
-returns c = let k = c.args.k in
+returns c =
+    let k = c.args.k in
     rw (shl_exact {a = 1} 1 k 32 (omega (arith, c.requires)) (omega (arith, c.requires)), one-mul, lt-ltb k 32 (omega (arith, c.requires)))

@@ -11,10 +11,12 @@ unfolding joined
 loop-i-init c = search rules
 
 pub loop-i-preserved : goal.loop-i-preserved
-loop-i-preserved c = let L = c.loop-i in
+loop-i-preserved c =
+    let L = c.loop-i in
     let words = c.args.words.now in
     (refl, omega arith, L.invariant.2 ∙ rw (drop_one 0 words L.i c.loop-i-test.true))
 
 pub returns : goal.returns
-returns c = let L = c.loop-i in
+returns c =
+    let L = c.loop-i in
     sym (L.invariant.2 ∙ rw (drop_of_length-le c.args.words.now c.loop-i-test.false))

@@ -14,11 +14,11 @@ pub loop-l-init : goal.loop-l-init
 loop-l-init c = (omega arith, searching_first _ _ _ _)
 
 pub find_line-parts-requires-clause-sectioned : goal.find_line-parts-requires-clause-sectioned
-find_line-parts-requires-clause-sectioned c = let in_line : c.loop-l.l < P.lines (C.puzzle c.args.words.now) = omega (arith, c.loop-l-test.true, c.requires.width_value) in
-    (c.requires.sectioned, c.requires.laid)
+find_line-parts-requires-clause-sectioned c = (c.requires.sectioned, c.requires.laid)
 
 pub find_line-parts-requires-clause-l_bound : goal.find_line-parts-requires-clause-l_bound
-find_line-parts-requires-clause-l_bound c = let in_line : c.loop-l.l < P.lines (C.puzzle c.args.words.now) = omega (arith, c.loop-l-test.true, c.requires.width_value) in
+find_line-parts-requires-clause-l_bound c =
+    let in_line : c.loop-l.l < P.lines (C.puzzle c.args.words.now) = omega (arith, c.loop-l-test.true, c.requires.width_value) in
     (in_line, c.requires.width_value.1)
 
 pub offset_bounds-words-begin : goal.offset_bounds-words-begin

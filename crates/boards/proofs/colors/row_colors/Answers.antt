@@ -14,11 +14,11 @@ pub loop-l-init : goal.loop-l-init
 loop-l-init c = (refl, rw c.requires.width_value.0 (joining_first _))
 
 pub find_line-parts-requires-clause-sectioned : goal.find_line-parts-requires-clause-sectioned
-find_line-parts-requires-clause-sectioned c = let in_line : c.loop-l.l < P.lines (C.puzzle c.args.words.now) = omega (arith, c.loop-l.invariant.0, c.loop-l-test.true, c.requires.width_value) in
-    (c.requires.sectioned, c.requires.laid)
+find_line-parts-requires-clause-sectioned c = (c.requires.sectioned, c.requires.laid)
 
 pub find_line-parts-requires-clause-l_bound : goal.find_line-parts-requires-clause-l_bound
-find_line-parts-requires-clause-l_bound c = let in_line : c.loop-l.l < P.lines (C.puzzle c.args.words.now) = omega (arith, c.loop-l.invariant.0, c.loop-l-test.true, c.requires.width_value) in
+find_line-parts-requires-clause-l_bound c =
+    let in_line : c.loop-l.l < P.lines (C.puzzle c.args.words.now) = omega (arith, c.loop-l.invariant.0, c.loop-l-test.true, c.requires.width_value) in
     (in_line, c.requires.width_value.2)
 
 pub offset_bounds-words-begin : goal.offset_bounds-words-begin
@@ -37,7 +37,8 @@ pub overflow_step-l : goal.overflow_step-l
 overflow_step-l c = omega (arith, c.loop-l.invariant.0, c.loop-l-test.true, c.requires.width_value, sizes c.args.words.now c.requires.sectioned)
 
 pub loop-l-preserved : goal.loop-l-preserved
-loop-l-preserved c = let in_line : c.loop-l.l < P.lines (C.puzzle c.args.words.now) = omega (arith, c.loop-l.invariant.0, c.loop-l-test.true, c.requires.width_value) in
+loop-l-preserved c =
+    let in_line : c.loop-l.l < P.lines (C.puzzle c.args.words.now) = omega (arith, c.loop-l.invariant.0, c.loop-l-test.true, c.requires.width_value) in
     (c.loop-l.invariant.0, joining_next c.loop-l.invariant.1 in_line c.with_colors-all.ensures c.find_line-parts.ensures.clue_is)
 
 pub returns-then-all-eq0 : goal.returns-then-all-eq0

@@ -28,7 +28,8 @@ offset_bounds-found-to c = omega (
 )
 
 pub bounds-found-to : goal.bounds-found-to
-bounds-found-to c = let covered : covers (moved (run c.args.block) c.loop-i.i) c.args.t ≡ true = sym c.covers.ensures ∙ c.if-not-covers.false in
+bounds-found-to c =
+    let covered : covers (moved (run c.args.block) c.loop-i.i) c.args.t ≡ true = sym c.covers.ensures ∙ c.if-not-covers.false in
     reaching_space _ (run c.args.block) _ _ c.loop-i.invariant c.loop-i-test.true covered
 
 pub overflow_add-to : goal.overflow_add-to
@@ -40,7 +41,8 @@ overflow_add-to c = omega (
 )
 
 pub loop-i-preserved : goal.loop-i-preserved
-loop-i-preserved c = let covered : covers (moved (run c.args.block) c.loop-i.i) c.args.t ≡ true = sym c.covers.ensures ∙ c.if-not-covers.false in
+loop-i-preserved c =
+    let covered : covers (moved (run c.args.block) c.loop-i.i) c.args.t ≡ true = sym c.covers.ensures ∙ c.if-not-covers.false in
     reaching_next _ (run c.args.block) _ _ c.loop-i.invariant c.loop-i-test.true covered
 
 pub shape_of-found : goal.shape_of-found

@@ -20,4 +20,6 @@ pub loop-r-preserved : goal.loop-r-preserved
 loop-r-preserved c = (omega arith, trues_on _ _ _ c.loop-r.invariant.1 (sym c.on.ensures ∙ c.if-not-on.false))
 
 pub returns : goal.returns
-returns c = let e : c.loop-r.r ≡ c.args.n = omega (arith, c.loop-r.invariant.0, c.loop-r-test.false) in rw e at c.loop-r.invariant.1
+returns c =
+    let e : c.loop-r.r ≡ c.args.n = omega (arith, c.loop-r.invariant.0, c.loop-r-test.false) in
+    rw e at c.loop-r.invariant.1

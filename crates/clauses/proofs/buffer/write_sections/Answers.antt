@@ -9,17 +9,14 @@ use Rattle.numbering.proofs.Palettes.{palette_taken, palette_count, palette_few}
 use Rattle.clauses.proofs.buffer.write_sections.Goals as goal
 
 pub write_line_sections-at-requires-clause-ready : goal.write_line_sections-at-requires-clause-ready
-write_line_sections-at-requires-clause-ready c = let z = puzzle c.args.words.now in
-    let W₀ = writing_first (line_sections z ++ cell_sections z) c.args.out.now (rw (all_sections z) at c.requires.words_in_bounds) in
-    c.requires.ready
+write_line_sections-at-requires-clause-ready c = c.requires.ready
 
 pub write_line_sections-at-requires-clause-counted : goal.write_line_sections-at-requires-clause-counted
-write_line_sections-at-requires-clause-counted c = let z = puzzle c.args.words.now in
-    let W₀ = writing_first (line_sections z ++ cell_sections z) c.args.out.now (rw (all_sections z) at c.requires.words_in_bounds) in
-    c.requires.counted
+write_line_sections-at-requires-clause-counted c = c.requires.counted
 
 pub write_line_sections-at-requires-clause-words_in_bounds : goal.write_line_sections-at-requires-clause-words_in_bounds
-write_line_sections-at-requires-clause-words_in_bounds c = let z = puzzle c.args.words.now in
+write_line_sections-at-requires-clause-words_in_bounds c =
+    let z = puzzle c.args.words.now in
     let W₀ = writing_first (line_sections z ++ cell_sections z) c.args.out.now (rw (all_sections z) at c.requires.words_in_bounds) in
     writing_front (line_sections z) (cell_sections z) W₀ refl
 
@@ -39,19 +36,14 @@ pub slice_bounds-write_cell_sections-start : goal.slice_bounds-write_cell_sectio
 slice_bounds-write_cell_sections-start c = omega (arith, (let z = puzzle c.args.words.now in let W₀ = writing_first (line_sections z ++ cell_sections z) c.args.out.now (rw (all_sections z) at c.requires.words_in_bounds) in let W₁ = writing_whole (line_sections z) (cell_sections z) W₀ c.write_line_sections-at.ensures in writing_place W₁), (let z = puzzle c.args.words.now in let W₀ = writing_first (line_sections z ++ cell_sections z) c.args.out.now (rw (all_sections z) at c.requires.words_in_bounds) in let W₁ = writing_whole (line_sections z) (cell_sections z) W₀ c.write_line_sections-at.ensures in writing_kept W₁))
 
 pub write_cell_sections-requires-clause-given : goal.write_cell_sections-requires-clause-given
-write_cell_sections-requires-clause-given c = let z = puzzle c.args.words.now in
-    let W₀ = writing_first (line_sections z ++ cell_sections z) c.args.out.now (rw (all_sections z) at c.requires.words_in_bounds) in
-    let W₁ = writing_whole (line_sections z) (cell_sections z) W₀ c.write_line_sections-at.ensures in
-    record { ready = c.requires.ready.0; stands = c.requires.ready.1; palette_is = palette_taken _ c.palette-k.ensures ∙ ap N.palette c.requires.ready.1.colors_is }
+write_cell_sections-requires-clause-given c = record { ready = c.requires.ready.0; stands = c.requires.ready.1; palette_is = palette_taken _ c.palette-k.ensures ∙ ap N.palette c.requires.ready.1.colors_is }
 
 pub write_cell_sections-requires-clause-cells_counted : goal.write_cell_sections-requires-clause-cells_counted
-write_cell_sections-requires-clause-cells_counted c = let z = puzzle c.args.words.now in
-    let W₀ = writing_first (line_sections z ++ cell_sections z) c.args.out.now (rw (all_sections z) at c.requires.words_in_bounds) in
-    let W₁ = writing_whole (line_sections z) (cell_sections z) W₀ c.write_line_sections-at.ensures in
-    c.requires.counted.cells_are
+write_cell_sections-requires-clause-cells_counted c = c.requires.counted.cells_are
 
 pub write_cell_sections-requires-clause-words_in_bounds : goal.write_cell_sections-requires-clause-words_in_bounds
-write_cell_sections-requires-clause-words_in_bounds c = let z = puzzle c.args.words.now in
+write_cell_sections-requires-clause-words_in_bounds c =
+    let z = puzzle c.args.words.now in
     let W₀ = writing_first (line_sections z ++ cell_sections z) c.args.out.now (rw (all_sections z) at c.requires.words_in_bounds) in
     let W₁ = writing_whole (line_sections z) (cell_sections z) W₀ c.write_line_sections-at.ensures in
     writing_room (cell_sections z) [] W₁
@@ -60,14 +52,16 @@ pub overflow_add-result : goal.overflow_add-result
 overflow_add-result c = omega (arith, (let z = puzzle c.args.words.now in let W₀ = writing_first (line_sections z ++ cell_sections z) c.args.out.now (rw (all_sections z) at c.requires.words_in_bounds) in let W₁ = writing_whole (line_sections z) (cell_sections z) W₀ c.write_line_sections-at.ensures in let W₂ = writing_next (cell_sections z) [] W₁ c.write_cell_sections.ensures in writing_place W₂), (let z = puzzle c.args.words.now in let W₀ = writing_first (line_sections z ++ cell_sections z) c.args.out.now (rw (all_sections z) at c.requires.words_in_bounds) in let W₁ = writing_whole (line_sections z) (cell_sections z) W₀ c.write_line_sections-at.ensures in let W₂ = writing_next (cell_sections z) [] W₁ c.write_cell_sections.ensures in writing_kept W₂))
 
 pub shape_of-out : goal.shape_of-out
-shape_of-out c = let z = puzzle c.args.words.now in
+shape_of-out c =
+    let z = puzzle c.args.words.now in
     let W₀ = writing_first (line_sections z ++ cell_sections z) c.args.out.now (rw (all_sections z) at c.requires.words_in_bounds) in
     let W₁ = writing_whole (line_sections z) (cell_sections z) W₀ c.write_line_sections-at.ensures in
     let W₂ = writing_next (cell_sections z) [] W₁ c.write_cell_sections.ensures in
     writing_kept W₂
 
 pub returns : goal.returns
-returns c = let z = puzzle c.args.words.now in
+returns c =
+    let z = puzzle c.args.words.now in
     let W₀ = writing_first (line_sections z ++ cell_sections z) c.args.out.now (rw (all_sections z) at c.requires.words_in_bounds) in
     let W₁ = writing_whole (line_sections z) (cell_sections z) W₀ c.write_line_sections-at.ensures in
     let W₂ = writing_next (cell_sections z) [] W₁ c.write_cell_sections.ensures in

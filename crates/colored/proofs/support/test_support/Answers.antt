@@ -34,26 +34,30 @@ pub bounds-found-i : goal.bounds-found-i
 bounds-found-i c = omega (arith, c.find_covering-n.ensures, c.find_covering-n.auto)
 
 pub on-requires-in-loop-i : goal.on-requires-in-loop-i
-on-requires-in-loop-i c = let found : Found c.find_covering-n.new.found (on_side (puzzle c.args.words.now) c.args.color c.args.x c.args.row c.args.y c.clauses.side) c.find_covering-n.result = found_are _ _ _ c.find_covering-n.ensures.0 (rw (c.pick-l.ensures, c.pick-t.ensures) at c.find_covering-n.ensures.1) in
+on-requires-in-loop-i c =
+    let found = found_are _ _ _ c.find_covering-n.ensures.0 (rw (c.pick-l.ensures, c.pick-t.ensures) at c.find_covering-n.ensures.1) in
     rw (found.same _ c.loop-i-test.true) (covering_within c.args.model.now _ c.requires.x_bound.2 _ _ _ (picked_below (eqb c.clauses.side 0) c.requires.x_bound.0 c.requires.x_bound.1) _ (omega (arith, found.many, c.loop-i-test.true)))
 
 pub clauses-smaller : goal.clauses-smaller
 clauses-smaller c = omega (arith, c.loop-i.invariant.0, c.clauses-test.true)
 
 pub clauses-preserved : goal.clauses-preserved
-clauses-preserved c = let found : Found c.find_covering-n.new.found (on_side (puzzle c.args.words.now) c.args.color c.args.x c.args.row c.args.y c.clauses.side) c.find_covering-n.result = found_are _ _ _ c.find_covering-n.ensures.0 (rw (c.pick-l.ensures, c.pick-t.ensures) at c.find_covering-n.ensures.1) in
+clauses-preserved c =
+    let found = found_are _ _ _ c.find_covering-n.ensures.0 (rw (c.pick-l.ensures, c.pick-t.ensures) at c.find_covering-n.ensures.1) in
     let on : value c.args.model.now c.args.v ≡ true = sym c.on.ensures ∙ c.if-not-on.false in
     rw c.loop-i.invariant.0 (side_on _ _ _ _ _ _ _ _ c.clauses.invariant c.clauses-test.true c.requires.x_bound.3.0 on c.loop-i.invariant.1 (omega (arith, found.many, c.loop-i-test.true)) (rw (← found.same _ c.loop-i-test.true) (sym c.on-in-loop-i.ensures ∙ c.if-on.true)))
 
 pub loop-i-preserved : goal.loop-i-preserved
-loop-i-preserved c = let found : Found c.find_covering-n.new.found (on_side (puzzle c.args.words.now) c.args.color c.args.x c.args.row c.args.y c.clauses.side) c.find_covering-n.result = found_are _ _ _ c.find_covering-n.ensures.0 (rw (c.pick-l.ensures, c.pick-t.ensures) at c.find_covering-n.ensures.1) in
+loop-i-preserved c =
+    let found = found_are _ _ _ c.find_covering-n.ensures.0 (rw (c.pick-l.ensures, c.pick-t.ensures) at c.find_covering-n.ensures.1) in
     (c.loop-i.invariant.0, seeking_next _ (on_side (puzzle c.args.words.now) c.args.color c.args.x c.args.row c.args.y c.clauses.side) c.loop-i.invariant.1 (omega (arith, found.many, c.loop-i-test.true)) (rw (← found.same _ c.loop-i-test.true) (sym c.on-in-loop-i.ensures ∙ c.if-on.false)))
 
 pub overflow_add-result : goal.overflow_add-result
 overflow_add-result c = omega (arith, c.loop-i.invariant.0, c.clauses-test.true)
 
 pub returns-in-clauses : goal.returns-in-clauses
-returns-in-clauses c = let found : Found c.find_covering-n.new.found (on_side (puzzle c.args.words.now) c.args.color c.args.x c.args.row c.args.y c.clauses.side) c.find_covering-n.result = found_are _ _ _ c.find_covering-n.ensures.0 (rw (c.pick-l.ensures, c.pick-t.ensures) at c.find_covering-n.ensures.1) in
+returns-in-clauses c =
+    let found = found_are _ _ _ c.find_covering-n.ensures.0 (rw (c.pick-l.ensures, c.pick-t.ensures) at c.find_covering-n.ensures.1) in
     let on : value c.args.model.now c.args.v ≡ true = sym c.on.ensures ∙ c.if-not-on.false in
     rw c.loop-i.invariant.0 (side_false _ _ _ _ _ _ _ _ c.clauses.invariant c.clauses-test.true c.requires.x_bound.3.0 on c.loop-i.invariant.1 (omega (arith, found.many, c.loop-i-test.false)))
 

@@ -39,7 +39,8 @@ pub slice_bounds-count_clause-end : goal.slice_bounds-count_clause-end
 slice_bounds-count_clause-end c = omega (arith, (line c).within)
 
 pub count_clause-bytes-requires : goal.count_clause-bytes-requires
-count_clause-bytes-requires c = let line : ClauseAhead c.args.words.now c.loop-i.i c.loop-i.left c.loop-i.invariant.rest c.count-n.result = ahead_clause c.loop-i.invariant.ahead c.loop-i-test.true (word_is _ (omega arith)) c.count-n.ensures c.if-left-eq0.false in
+count_clause-bytes-requires c =
+    let line = ahead_clause c.loop-i.invariant.ahead c.loop-i-test.true (word_is _ (omega arith)) c.count-n.ensures c.if-left-eq0.false in
     (line.fine, omega (arith, line.long, line.within, c.requires.few))
 
 pub overflow_add-bytes : goal.overflow_add-bytes
@@ -58,4 +59,6 @@ pub loop-i-preserved : goal.loop-i-preserved
 loop-i-preserved c = counting_line c.loop-i.invariant (line_behind c) c.count_clause-bytes.ensures
 
 pub returns : goal.returns
-returns c = let d = counting_done c.loop-i.invariant c.loop-i-test.false in record { clauses_are = d.0; bytes_are = d.1 }
+returns c =
+    let d = counting_done c.loop-i.invariant c.loop-i-test.false in
+    record { clauses_are = d.0; bytes_are = d.1 }

@@ -39,7 +39,8 @@ pub slice_bounds-put_clause-end : goal.slice_bounds-put_clause-end
 slice_bounds-put_clause-end c = omega (arith, (line c).within)
 
 pub put_clause-to-requires : goal.put_clause-to-requires
-put_clause-to-requires c = let line : ClauseAhead c.args.words.now c.loop-i.i c.loop-i.left c.loop-i.invariant.rest c.count-n.result = ahead_clause c.loop-i.invariant.ahead c.loop-i-test.true (word_is _ (omega arith)) c.count-n.ensures c.if-left-eq0.false in
+put_clause-to-requires c =
+    let line = ahead_clause c.loop-i.invariant.ahead c.loop-i-test.true (word_is _ (omega arith)) c.count-n.ensures c.if-left-eq0.false in
     (line.fine, line_room c.loop-i.invariant line)
 
 pub overflow_add-i-in-loop-i-2 : goal.overflow_add-i-in-loop-i-2

@@ -7,7 +7,8 @@ use Rattle.literals.proofs.Signs.{is_positive}
 use Rattle.formulas.proofs.word.count.Goals as goal
 
 pub overflow_cast-result : goal.overflow_cast-result
-overflow_cast-result c = let z = c.args.word in
+overflow_cast-result c =
+    let z = c.args.word in
     let m = c.ranges.word.sfits in
     rw (word_is z m, is_positive z c.requires) (tt, record { fits = omega (arith, nat_abs-le z m) })
 

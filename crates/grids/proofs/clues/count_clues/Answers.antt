@@ -39,7 +39,8 @@ overflow_add-count-in-loop-i c = omega (
 )
 
 pub loop-i-preserved : goal.loop-i-preserved
-loop-i-preserved c = let L = c.requires in
+loop-i-preserved c =
+    let L = c.requires in
     let h = c.loop-i-test.true in
     summing_next c.loop-i.invariant L h (c.count_words.ensures ∙ ap (λ l. length (line_words l)) (line_row _ _ _ L _ h))
 

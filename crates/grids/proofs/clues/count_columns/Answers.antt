@@ -13,22 +13,26 @@ pub slice_bounds-count_begun-end-2 : goal.slice_bounds-count_begun-end-2
 slice_bounds-count_begun-end-2 c = refl
 
 pub count_begun-count-requires : goal.count_begun-count-requires
-count_begun-count-requires c = let S = c.requires in
+count_begun-count-requires c =
+    let S = c.requires in
     (omega (arith, first_length S, S.width_most), omega (arith, first_length S, S.width_most, length-replicate {0} {A = ℕ} 64 0))
 
 pub loop-y-init : goal.loop-y-init
 loop-y-init c = descending_first c.requires c.count_begun-count.ensures
 
 pub overflow_mul-at : goal.overflow_mul-at
-overflow_mul-at c = let within = row_end c.requires c.loop-y.invariant c.loop-y-test.true in
+overflow_mul-at c =
+    let within = row_end c.requires c.loop-y.invariant c.loop-y-test.true in
     omega (arith, within, sized_most c.requires)
 
 pub overflow_add-at : goal.overflow_add-at
-overflow_add-at c = let within = row_end c.requires c.loop-y.invariant c.loop-y-test.true in
+overflow_add-at c =
+    let within = row_end c.requires c.loop-y.invariant c.loop-y-test.true in
     omega (arith, within, sized_most c.requires)
 
 pub slice_bounds-count_begun-count-in-loop-y : goal.slice_bounds-count_begun-count-in-loop-y
-slice_bounds-count_begun-count-in-loop-y c = let begin : c.args.width ≤ c.loop-y.y * c.args.width = row_begin c.requires c.loop-y.invariant c.loop-y-test.true in
+slice_bounds-count_begun-count-in-loop-y c =
+    let begin = row_begin c.requires c.loop-y.invariant c.loop-y-test.true in
     omega (arith, begin)
 
 pub slice_bounds-count_begun-start-in-loop-y : goal.slice_bounds-count_begun-start-in-loop-y
@@ -38,7 +42,8 @@ pub slice_bounds-count_begun-end-in-loop-y : goal.slice_bounds-count_begun-end-i
 slice_bounds-count_begun-end-in-loop-y c = row_end c.requires c.loop-y.invariant c.loop-y-test.true
 
 pub overflow_sub-at : goal.overflow_sub-at
-overflow_sub-at c = let begin : c.args.width ≤ c.loop-y.y * c.args.width = row_begin c.requires c.loop-y.invariant c.loop-y-test.true in
+overflow_sub-at c =
+    let begin = row_begin c.requires c.loop-y.invariant c.loop-y-test.true in
     omega (arith, begin)
 
 pub slice_bounds-count_begun-count-in-loop-y-2 : goal.slice_bounds-count_begun-count-in-loop-y-2
@@ -51,13 +56,15 @@ pub slice_bounds-count_begun-end-in-loop-y-2 : goal.slice_bounds-count_begun-end
 slice_bounds-count_begun-end-in-loop-y-2 c = omega (arith, row_end c.requires c.loop-y.invariant c.loop-y-test.true)
 
 pub count_begun-count-requires-in-loop-y : goal.count_begun-count-requires-in-loop-y
-count_begun-count-requires-in-loop-y c = let S = c.requires in
+count_begun-count-requires-in-loop-y c =
+    let S = c.requires in
     let D = c.loop-y.invariant in
     let l = c.loop-y-test.true in
     (omega (arith, row_length_here S D l, S.width_most), omega (arith, row_length_here S D l, row_length_above S D l))
 
 pub overflow_add-count : goal.overflow_add-count
-overflow_add-count c = let next = descending_next c.requires c.loop-y.invariant c.loop-y-test.true c.count_begun-count-in-loop-y.ensures in
+overflow_add-count c =
+    let next = descending_next c.requires c.loop-y.invariant c.loop-y-test.true c.count_begun-count-in-loop-y.ensures in
     omega (arith, next.few, next.within, c.requires.height_most)
 
 pub loop-y-preserved : goal.loop-y-preserved
@@ -70,7 +77,8 @@ pub overflow_mul-result : goal.overflow_mul-result
 overflow_mul-result c = omega (arith, c.loop-y.invariant.few, c.loop-y.invariant.within, c.requires.height_most)
 
 pub overflow_add-result-2 : goal.overflow_add-result-2
-overflow_add-result-2 c = let S = c.requires in
+overflow_add-result-2 c =
+    let S = c.requires in
     omega (arith, c.loop-y.invariant.few, c.loop-y.invariant.within, S.height_most, S.width_most)
 
 pub returns : goal.returns

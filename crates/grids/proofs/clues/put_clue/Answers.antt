@@ -16,12 +16,14 @@ pub overflow_sub-out : goal.overflow_sub-out
 overflow_sub-out c = omega (arith, c.put_runs-to.ensures.next_is)
 
 pub overflow_cast-out : goal.overflow_cast-out
-overflow_cast-out c = let a = c.args in
+overflow_cast-out c =
+    let a = c.args in
     let line = strided a.from a.step a.len a.cells.now in
     omega (arith, clue_count line a.out.now a.at c.requires.1 c.put_runs-to.ensures, runs_few line, strided_length a.from a.step a.len a.cells.now, c.requires.0.few)
 
 pub bounds-out-at : goal.bounds-out-at
-bounds-out-at c = let a = c.args in
+bounds-out-at c =
+    let a = c.args in
     omega (arith, clue_room (strided a.from a.step a.len a.cells.now) a.out.now a.at c.requires.1, c.put_runs-to.auto.out)
 
 pub shape_of-out : goal.shape_of-out

@@ -11,10 +11,12 @@ pub set-mask-requires : goal.set-mask-requires
 set-mask-requires c = c.requires.low c.loop-i.i c.loop-i-test.true
 
 pub loop-i-preserved : goal.loop-i-preserved
-loop-i-preserved c = let L = c.loop-i in
+loop-i-preserved c =
+    let L = c.loop-i in
     let grid = c.args.grid.now in
     (refl, omega arith, L.invariant.2 ∙ rw (drop_one 0 grid L.i c.loop-i-test.true, c.set-mask.ensures))
 
 pub returns : goal.returns
-returns c = let L = c.loop-i in
+returns c =
+    let L = c.loop-i in
     sym (L.invariant.2 ∙ rw (drop_of_length-le c.args.grid.now c.loop-i-test.false))

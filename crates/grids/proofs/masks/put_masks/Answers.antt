@@ -10,14 +10,16 @@ pub loop-init : goal.loop-init
 loop-init c = masks_first _ _ c.args.out.now _ c.requires.1
 
 pub offset_bounds-out-to : goal.offset_bounds-out-to
-offset_bounds-out-to c = let kept_length : length c.loop.out ≡ length c.args.out.now = emit_kept c.loop.invariant ∙ simp length-set in
+offset_bounds-out-to c =
+    let kept_length : length c.loop.out ≡ length c.args.out.now = emit_kept c.loop.invariant ∙ simp length-set in
     omega (arith, emit_room c.loop.invariant c.loop-test.true, kept_length)
 
 pub bounds-out-to : goal.bounds-out-to
 bounds-out-to c = omega (arith, emit_room c.loop.invariant c.loop-test.true)
 
 pub overflow_add-to-in-loop : goal.overflow_add-to-in-loop
-overflow_add-to-in-loop c = let kept_length : length c.loop.out ≡ length c.args.out.now = emit_kept c.loop.invariant ∙ simp length-set in
+overflow_add-to-in-loop c =
+    let kept_length : length c.loop.out ≡ length c.args.out.now = emit_kept c.loop.invariant ∙ simp length-set in
     omega (arith, emit_room c.loop.invariant c.loop-test.true, kept_length)
 
 pub loop-preserved : goal.loop-preserved

@@ -13,7 +13,8 @@ pub put_clues-cells-requires-clause-laid : goal.put_clues-cells-requires-clause-
 put_clues-cells-requires-clause-laid c = rows_laid c.requires.0
 
 pub put_clues-cells-requires-clause-cells_in_bounds : goal.put_clues-cells-requires-clause-cells_in_bounds
-put_clues-cells-requires-clause-cells_in_bounds c = let p = c.requires in
+put_clues-cells-requires-clause-cells_in_bounds c =
+    let p = c.requires in
     let a = c.put_clues-rows in
     rows_room p.0 _ p.2 a.ensures a.auto.out
 
@@ -21,7 +22,8 @@ pub cells_mask-requires : goal.cells_mask-requires
 cells_mask-requires c = c.requires.1
 
 pub put_masks-requires : goal.put_masks-requires
-put_masks-requires c = let a = c.put_clues-rows in
+put_masks-requires c =
+    let a = c.put_clues-rows in
     let p = c.requires in
     let k = a.auto.out in
     (sized_most p.0, cells_room p.0 _ p.2 a.ensures k c.put_clues-cells.ensures (c.put_clues-cells.auto.out ∙ k))
@@ -30,6 +32,7 @@ pub shape_of-out : goal.shape_of-out
 shape_of-out c = c.put_masks.auto.out ∙ c.put_clues-cells.auto.out ∙ c.put_clues-rows.auto.out
 
 pub returns : goal.returns
-returns c = let a = c.put_clues-rows in
+returns c =
+    let a = c.put_clues-rows in
     let p = c.requires in
     grid_wrote p.0 _ p.2 a.ensures a.auto.out c.put_clues-cells.ensures c.cells_mask.ensures c.put_masks.ensures

@@ -15,7 +15,8 @@ pub returns-then-out-need : goal.returns-then-out-need
 returns-then-out-need c = answers_short _ _ (sym (ap checked c.in-Accepted.is) ∙ c.check_grid-checked.ensures) c.count_grid-need.ensures c.if-out-need.true
 
 pub put_grid-requires : goal.put_grid-requires
-put_grid-requires c = let e = sym (ap checked c.in-Accepted.is) ∙ c.check_grid-checked.ensures in
+put_grid-requires c =
+    let e = sym (ap checked c.in-Accepted.is) ∙ c.check_grid-checked.ensures in
     (grid_sized _ _ _ e, grid_colored _ _ _ e, omega (arith, c.count_grid-need.ensures))
 
 pub shape_of-out : goal.shape_of-out

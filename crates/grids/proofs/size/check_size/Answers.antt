@@ -12,7 +12,8 @@ pub returns-then-off_size-2 : goal.returns-then-off_size-2
 returns-then-off_size-2 c = height_refused _ _ _ (sym c.off_size.ensures ∙ c.if-off_size.false) (sym c.off_size-2.ensures ∙ c.if-off_size-2.true)
 
 pub overflow_mul-width : goal.overflow_mul-width
-overflow_mul-width c = let x = c.args in
+overflow_mul-width c =
+    let x = c.args in
     let a = size_within x.width (sym c.off_size.ensures ∙ c.if-off_size.false) in
     let b = size_within x.height (sym c.off_size-2.ensures ∙ c.if-off_size-2.false) in
     omega (arith, area_most x.width x.height a b)

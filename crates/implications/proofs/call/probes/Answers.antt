@@ -4,7 +4,9 @@ use Rattle.puzzles.proofs.Accepting.{accepted_is}
 use Rattle.implications.proofs.call.probes.Goals as goal
 
 pub answer_probes-requires : goal.answer_probes-requires
-answer_probes-requires c = let H = (rw c.in-Read.is at c.read_puzzle-reading.ensures) in (_, (accepted_is 0 _ H.checked).good, H.stands)
+answer_probes-requires c =
+    let H = (rw c.in-Read.is at c.read_puzzle-reading.ensures) in
+    (_, (accepted_is 0 _ H.checked).good, H.stands)
 
 pub returns-in-Refused : goal.returns-in-Refused
 returns-in-Refused c = answers_first _ _ _ (rw c.in-Refused.is at c.read_puzzle-reading.ensures)

@@ -11,7 +11,9 @@ pub overflow_add-result : goal.overflow_add-result
 overflow_add-result c = omega (arith, palette_most c.args.board.colors)
 
 pub overflow_mul-result : goal.overflow_mul-result
-overflow_mul-result c = let h : c.args.k + 2 ≤ 33 = omega (arith, palette_most c.args.board.colors) in omega (arith, mul-le-mul_left c.count_impacts-clauses.result h, count_most c.args.board c.args.board.colors (omega arith) c.args.part.now, (rw (tail_is _ _) at c.count_impacts-clauses.ensures))
+overflow_mul-result c =
+    let h : c.args.k + 2 ≤ 33 = omega (arith, palette_most c.args.board.colors) in
+    omega (arith, mul-le-mul_left c.count_impacts-clauses.result h, count_most c.args.board c.args.board.colors (omega arith) c.args.part.now, (rw (tail_is _ _) at c.count_impacts-clauses.ensures))
 
 pub returns-then-part-eq0 : goal.returns-then-part-eq0
 returns-then-part-eq0 c = probe_sized c.args.board _ (omega arith) _ c.requires.part_value _ _ (rw (tail_is _ _) at c.count_impacts-clauses.ensures) (rw (eq-eqb _ _ c.if-part-eq0.true) c.requires.k_value.0)

@@ -13,11 +13,13 @@ use Rattle.implied.proofs.premise.put_literal.Goals as goal
 -- `one` in these answers: blank, or this colour
 
 pub bounds-out-at : goal.bounds-out-at
-bounds-out-at c = let one : premise_at c.args.color c.args.hue c.args.u ≡ premise_literal c.args.color c.args.u ∷ [] = ⊎_elim (λ w. premise_blank _ _ _ w) (λ w. premise_color _ _ _ w.0 (eq-eqb c.args.hue c.args.color w.1)) c.then-color-eq0.either in
+bounds-out-at c =
+    let one : premise_at c.args.color c.args.hue c.args.u ≡ premise_literal c.args.color c.args.u ∷ [] = ⊎_elim (λ w. premise_blank _ _ _ w) (λ w. premise_color _ _ _ w.0 (eq-eqb c.args.hue c.args.color w.1)) c.then-color-eq0.either in
     omega (arith, c.requires.u_in_bounds, ap length one)
 
 pub returns-then-color-eq0 : goal.returns-then-color-eq0
-returns-then-color-eq0 c = let one : premise_at c.args.color c.args.hue c.args.u ≡ premise_literal c.args.color c.args.u ∷ [] = ⊎_elim (λ w. premise_blank _ _ _ w) (λ w. premise_color _ _ _ w.0 (eq-eqb c.args.hue c.args.color w.1)) c.then-color-eq0.either in
+returns-then-color-eq0 c =
+    let one : premise_at c.args.color c.args.hue c.args.u ≡ premise_literal c.args.color c.args.u ∷ [] = ⊎_elim (λ w. premise_blank _ _ _ w) (λ w. premise_color _ _ _ w.0 (eq-eqb c.args.hue c.args.color w.1)) c.then-color-eq0.either in
     rw (one, word_is c.premise_literal.result c.premise_literal.type_inv, c.premise_literal.ensures) (wrote_store _ _ _ (omega (arith, c.requires.u_in_bounds, ap length one)))
 
 pub returns : goal.returns

@@ -9,18 +9,22 @@ use Rattle.lines.proofs.Moving.{clear_is, distance_is, distance_meets}
 use Rattle.lines.proofs.meet.distance.Goals as goal
 
 pub overflow_add-end : goal.overflow_add-end
-overflow_add-end c = let clear : end (run c.args.earlier) + gap c.args.earlier.color c.args.later.color ≤ c.args.later.start = clear_is gap (run c.args.earlier) (run c.args.later) c.requires.0 in
+overflow_add-end c =
+    let clear = clear_is gap (run c.args.earlier) (run c.args.later) c.requires.0 in
     omega (arith, clear)
 
 pub overflow_sub-result : goal.overflow_sub-result
-overflow_sub-result c = let clear : end (run c.args.earlier) + gap c.args.earlier.color c.args.later.color ≤ c.args.later.start = clear_is gap (run c.args.earlier) (run c.args.later) c.requires.0 in
+overflow_sub-result c =
+    let clear = clear_is gap (run c.args.earlier) (run c.args.later) c.requires.0 in
     omega (arith, clear)
 
 pub overflow_sub-result-2 : goal.overflow_sub-result-2
-overflow_sub-result-2 c = let clear : end (run c.args.earlier) + gap c.args.earlier.color c.args.later.color ≤ c.args.later.start = clear_is gap (run c.args.earlier) (run c.args.later) c.requires.0 in
+overflow_sub-result-2 c =
+    let clear = clear_is gap (run c.args.earlier) (run c.args.later) c.requires.0 in
     omega (arith, clear, c.wide.ensures, c.gap.ensures)
 
 pub returns : goal.returns
-returns c = let a = c.args in
+returns c =
+    let a = c.args in
     let e : a.later.start - (a.earlier.start + a.earlier.size) + 1 - c.wide.result ≡ distance gap (run a.earlier) (run a.later) = rw (c.wide.ensures, c.gap.ensures.0) (distance_is gap (run a.earlier) (run a.later)) in
     (rw e (distance_meets base_gap (run a.earlier) (run a.later) c.requires.0), e)

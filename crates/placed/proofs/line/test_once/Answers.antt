@@ -8,20 +8,22 @@ pub loop-b-init : goal.loop-b-init
 loop-b-init c = testing_first _ _ _ _ _ (once_are _ _ c.requires.sound.0 (c.first_of-first.ensures _) (c.positions_of-p.ensures _))
 
 pub overflow_mul-b : goal.overflow_mul-b
-overflow_mul-b c = let has : Has (length c.args.model.now) c.first_of-first.result c.positions_of-p.result c.loop-b.b = has_block _ _ c.requires.sound.0 (c.first_of-first.ensures _) (c.positions_of-p.ensures _) _ _ c.requires.sound.1 c.loop-b-test.true in
+overflow_mul-b c =
+    let has = has_block _ _ c.requires.sound.0 (c.first_of-first.ensures _) (c.positions_of-p.ensures _) _ _ c.requires.sound.1 c.loop-b-test.true in
     omega (arith, has)
 
 pub overflow_add-first : goal.overflow_add-first
-overflow_add-first c = let has : Has (length c.args.model.now) c.first_of-first.result c.positions_of-p.result c.loop-b.b = has_block _ _ c.requires.sound.0 (c.first_of-first.ensures _) (c.positions_of-p.ensures _) _ _ c.requires.sound.1 c.loop-b-test.true in
+overflow_add-first c =
+    let has = has_block _ _ c.requires.sound.0 (c.first_of-first.ensures _) (c.positions_of-p.ensures _) _ _ c.requires.sound.1 c.loop-b-test.true in
     omega (arith, has)
 
 pub test_at_most_one-block-requires-clause-v_nonzero : goal.test_at_most_one-block-requires-clause-v_nonzero
-test_at_most_one-block-requires-clause-v_nonzero c = let has : Has (length c.args.model.now) c.first_of-first.result c.positions_of-p.result c.loop-b.b = has_block _ _ c.requires.sound.0 (c.first_of-first.ensures _) (c.positions_of-p.ensures _) _ _ c.requires.sound.1 c.loop-b-test.true in
+test_at_most_one-block-requires-clause-v_nonzero c =
+    let has = has_block _ _ c.requires.sound.0 (c.first_of-first.ensures _) (c.positions_of-p.ensures _) _ _ c.requires.sound.1 c.loop-b-test.true in
     (omega (arith, has.least), has.bytes)
 
 pub test_at_most_one-block-requires-clause-countable : goal.test_at_most_one-block-requires-clause-countable
-test_at_most_one-block-requires-clause-countable c = let has : Has (length c.args.model.now) c.first_of-first.result c.positions_of-p.result c.loop-b.b = has_block _ _ c.requires.sound.0 (c.first_of-first.ensures _) (c.positions_of-p.ensures _) _ _ c.requires.sound.1 c.loop-b-test.true in
-    testing_room c.loop-b.invariant c.loop-b-test.true c.requires.countable
+test_at_most_one-block-requires-clause-countable c = testing_room c.loop-b.invariant c.loop-b-test.true c.requires.countable
 
 pub returns-in_default : goal.returns-in_default
 returns-in_default c = testing_stop c.loop-b.invariant c.loop-b-test.true _ c.test_at_most_one-block.ensures c.in_default.is

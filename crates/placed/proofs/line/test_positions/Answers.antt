@@ -13,19 +13,23 @@ pub loop-i-init : goal.loop-i-init
 loop-i-init c = record { below = c.clauses-test.true; clauses = c.clauses.invariant; left = some_first _ _ _ }
 
 pub overflow_mul-b : goal.overflow_mul-b
-overflow_mul-b c = let has : Has (length c.args.model.now) c.first_of-first.result c.positions_of-p.result c.clauses.b = has_block _ _ c.requires.sound.0 (c.first_of-first.ensures _) (c.positions_of-p.ensures _) _ _ c.requires.sound.1 c.loop-i.invariant.below in
+overflow_mul-b c =
+    let has = has_block _ _ c.requires.sound.0 (c.first_of-first.ensures _) (c.positions_of-p.ensures _) _ _ c.requires.sound.1 c.loop-i.invariant.below in
     omega (arith, has)
 
 pub overflow_add-first : goal.overflow_add-first
-overflow_add-first c = let has : Has (length c.args.model.now) c.first_of-first.result c.positions_of-p.result c.clauses.b = has_block _ _ c.requires.sound.0 (c.first_of-first.ensures _) (c.positions_of-p.ensures _) _ _ c.requires.sound.1 c.loop-i.invariant.below in
+overflow_add-first c =
+    let has = has_block _ _ c.requires.sound.0 (c.first_of-first.ensures _) (c.positions_of-p.ensures _) _ _ c.requires.sound.1 c.loop-i.invariant.below in
     omega (arith, has)
 
 pub overflow_add-first-in-loop-i : goal.overflow_add-first-in-loop-i
-overflow_add-first-in-loop-i c = let has : Has (length c.args.model.now) c.first_of-first.result c.positions_of-p.result c.clauses.b = has_block _ _ c.requires.sound.0 (c.first_of-first.ensures _) (c.positions_of-p.ensures _) _ _ c.requires.sound.1 c.loop-i.invariant.below in
+overflow_add-first-in-loop-i c =
+    let has = has_block _ _ c.requires.sound.0 (c.first_of-first.ensures _) (c.positions_of-p.ensures _) _ _ c.requires.sound.1 c.loop-i.invariant.below in
     omega (arith, has, c.loop-i-test.true)
 
 pub on-requires : goal.on-requires
-on-requires c = let has : Has (length c.args.model.now) c.first_of-first.result c.positions_of-p.result c.clauses.b = has_block _ _ c.requires.sound.0 (c.first_of-first.ensures _) (c.positions_of-p.ensures _) _ _ c.requires.sound.1 c.loop-i.invariant.below in
+on-requires c =
+    let has = has_block _ _ c.requires.sound.0 (c.first_of-first.ensures _) (c.positions_of-p.ensures _) _ _ c.requires.sound.1 c.loop-i.invariant.below in
     (omega (arith, has), omega (arith, has, c.loop-i-test.true))
 
 pub clauses-preserved : goal.clauses-preserved

@@ -8,20 +8,22 @@ pub loop-b-init : goal.loop-b-init
 loop-b-init c = once_first _ _ c.requires.sound.0 (c.first_of-first.ensures _) (c.positions_of-p.ensures _) _ _ c.requires.clue_in_bounds
 
 pub overflow_mul-b : goal.overflow_mul-b
-overflow_mul-b c = let in_block : InRange (c.first_of-first.result + c.loop-b.b * c.positions_of-p.result) c.positions_of-p.result = in_range _ _ c.requires.sound.0 (c.first_of-first.ensures _) (c.positions_of-p.ensures _) _ c.loop-b-test.true in
+overflow_mul-b c =
+    let in_block = in_range _ _ c.requires.sound.0 (c.first_of-first.ensures _) (c.positions_of-p.ensures _) _ c.loop-b-test.true in
     omega (arith, in_block)
 
 pub overflow_add-first : goal.overflow_add-first
-overflow_add-first c = let in_block : InRange (c.first_of-first.result + c.loop-b.b * c.positions_of-p.result) c.positions_of-p.result = in_range _ _ c.requires.sound.0 (c.first_of-first.ensures _) (c.positions_of-p.ensures _) _ c.loop-b-test.true in
+overflow_add-first c =
+    let in_block = in_range _ _ c.requires.sound.0 (c.first_of-first.ensures _) (c.positions_of-p.ensures _) _ c.loop-b-test.true in
     omega (arith, in_block)
 
 pub at_most_one-to-requires-clause-v_nonzero : goal.at_most_one-to-requires-clause-v_nonzero
-at_most_one-to-requires-clause-v_nonzero c = let in_block : InRange (c.first_of-first.result + c.loop-b.b * c.positions_of-p.result) c.positions_of-p.result = in_range _ _ c.requires.sound.0 (c.first_of-first.ensures _) (c.positions_of-p.ensures _) _ c.loop-b-test.true in
+at_most_one-to-requires-clause-v_nonzero c =
+    let in_block = in_range _ _ c.requires.sound.0 (c.first_of-first.ensures _) (c.positions_of-p.ensures _) _ c.loop-b-test.true in
     in_block
 
 pub at_most_one-to-requires-clause-n_in_bounds : goal.at_most_one-to-requires-clause-n_in_bounds
-at_most_one-to-requires-clause-n_in_bounds c = let in_block : InRange (c.first_of-first.result + c.loop-b.b * c.positions_of-p.result) c.positions_of-p.result = in_range _ _ c.requires.sound.0 (c.first_of-first.ensures _) (c.positions_of-p.ensures _) _ c.loop-b-test.true in
-    emit_room c.loop-b.invariant c.loop-b-test.true
+at_most_one-to-requires-clause-n_in_bounds c = emit_room c.loop-b.invariant c.loop-b-test.true
 
 pub loop-b-preserved : goal.loop-b-preserved
 loop-b-preserved c = emit_next c.loop-b.invariant c.loop-b-test.true c.at_most_one-to.ensures

@@ -20,35 +20,39 @@ pub distance_of-d-requires : goal.distance_of-d-requires
 distance_of-d-requires c = (c.requires.sound.0, c.requires.sound.1, omega (arith, c.loop-b.invariant.low), c.loop-b-test.true)
 
 pub overflow_mul-a : goal.overflow_mul-a
-overflow_mul-a c = let earlier : InRange (c.first_of-first.result + c.args.a * c.positions_of-p.result) c.positions_of-p.result = in_range _ _ c.requires.sound.0 (c.first_of-first.ensures _) (c.positions_of-p.ensures _) _ c.requires.a_in_bounds in
+overflow_mul-a c =
+    let earlier = in_range _ _ c.requires.sound.0 (c.first_of-first.ensures _) (c.positions_of-p.ensures _) _ c.requires.a_in_bounds in
     omega (arith, earlier)
 
 pub overflow_add-first : goal.overflow_add-first
-overflow_add-first c = let earlier : InRange (c.first_of-first.result + c.args.a * c.positions_of-p.result) c.positions_of-p.result = in_range _ _ c.requires.sound.0 (c.first_of-first.ensures _) (c.positions_of-p.ensures _) _ c.requires.a_in_bounds in
+overflow_add-first c =
+    let earlier = in_range _ _ c.requires.sound.0 (c.first_of-first.ensures _) (c.positions_of-p.ensures _) _ c.requires.a_in_bounds in
     omega (arith, earlier)
 
 pub overflow_mul-b : goal.overflow_mul-b
-overflow_mul-b c = let later : InRange (c.first_of-first.result + c.loop-b.b * c.positions_of-p.result) c.positions_of-p.result = in_range _ _ c.requires.sound.0 (c.first_of-first.ensures _) (c.positions_of-p.ensures _) _ c.loop-b-test.true in
+overflow_mul-b c =
+    let later = in_range _ _ c.requires.sound.0 (c.first_of-first.ensures _) (c.positions_of-p.ensures _) _ c.loop-b-test.true in
     omega (arith, later)
 
 pub overflow_add-first-in-loop-b : goal.overflow_add-first-in-loop-b
-overflow_add-first-in-loop-b c = let later : InRange (c.first_of-first.result + c.loop-b.b * c.positions_of-p.result) c.positions_of-p.result = in_range _ _ c.requires.sound.0 (c.first_of-first.ensures _) (c.positions_of-p.ensures _) _ c.loop-b-test.true in
+overflow_add-first-in-loop-b c =
+    let later = in_range _ _ c.requires.sound.0 (c.first_of-first.ensures _) (c.positions_of-p.ensures _) _ c.loop-b-test.true in
     omega (arith, later)
 
 pub put_rows-to-requires-clause-va_nonzero : goal.put_rows-to-requires-clause-va_nonzero
-put_rows-to-requires-clause-va_nonzero c = let earlier : InRange (c.first_of-first.result + c.args.a * c.positions_of-p.result) c.positions_of-p.result = in_range _ _ c.requires.sound.0 (c.first_of-first.ensures _) (c.positions_of-p.ensures _) _ c.requires.a_in_bounds in
-    let later : InRange (c.first_of-first.result + c.loop-b.b * c.positions_of-p.result) c.positions_of-p.result = in_range _ _ c.requires.sound.0 (c.first_of-first.ensures _) (c.positions_of-p.ensures _) _ c.loop-b-test.true in
-    let pair : conflicts (line_of c.args.line.now c.args.clue.now) c.args.a c.loop-b.b ≡ rows_from (c.first_of-first.result + c.args.a * c.positions_of-p.result) (c.first_of-first.result + c.loop-b.b * c.positions_of-p.result) c.distance_of-d.result c.positions_of-p.result = pair_is _ _ c.requires.sound.0 (c.first_of-first.ensures _) (c.positions_of-p.ensures _) _ _ c.distance_of-d.ensures.meets in
+put_rows-to-requires-clause-va_nonzero c =
+    let earlier = in_range _ _ c.requires.sound.0 (c.first_of-first.ensures _) (c.positions_of-p.ensures _) _ c.requires.a_in_bounds in
+    let later = in_range _ _ c.requires.sound.0 (c.first_of-first.ensures _) (c.positions_of-p.ensures _) _ c.loop-b-test.true in
     (earlier.0, earlier.1, later.0, later.1)
 
 pub put_rows-to-requires-clause-p_in_bounds : goal.put_rows-to-requires-clause-p_in_bounds
-put_rows-to-requires-clause-p_in_bounds c = let earlier : InRange (c.first_of-first.result + c.args.a * c.positions_of-p.result) c.positions_of-p.result = in_range _ _ c.requires.sound.0 (c.first_of-first.ensures _) (c.positions_of-p.ensures _) _ c.requires.a_in_bounds in
-    let later : InRange (c.first_of-first.result + c.loop-b.b * c.positions_of-p.result) c.positions_of-p.result = in_range _ _ c.requires.sound.0 (c.first_of-first.ensures _) (c.positions_of-p.ensures _) _ c.loop-b-test.true in
-    let pair : conflicts (line_of c.args.line.now c.args.clue.now) c.args.a c.loop-b.b ≡ rows_from (c.first_of-first.result + c.args.a * c.positions_of-p.result) (c.first_of-first.result + c.loop-b.b * c.positions_of-p.result) c.distance_of-d.result c.positions_of-p.result = pair_is _ _ c.requires.sound.0 (c.first_of-first.ensures _) (c.positions_of-p.ensures _) _ _ c.distance_of-d.ensures.meets in
+put_rows-to-requires-clause-p_in_bounds c =
+    let pair = pair_is _ _ c.requires.sound.0 (c.first_of-first.ensures _) (c.positions_of-p.ensures _) _ _ c.distance_of-d.ensures.meets in
     rw pair at (from_room c.loop-b.invariant c.loop-b-test.true)
 
 pub loop-b-preserved : goal.loop-b-preserved
-loop-b-preserved c = let pair : conflicts (line_of c.args.line.now c.args.clue.now) c.args.a c.loop-b.b ≡ rows_from (c.first_of-first.result + c.args.a * c.positions_of-p.result) (c.first_of-first.result + c.loop-b.b * c.positions_of-p.result) c.distance_of-d.result c.positions_of-p.result = pair_is _ _ c.requires.sound.0 (c.first_of-first.ensures _) (c.positions_of-p.ensures _) _ _ c.distance_of-d.ensures.meets in
+loop-b-preserved c =
+    let pair = pair_is _ _ c.requires.sound.0 (c.first_of-first.ensures _) (c.positions_of-p.ensures _) _ _ c.distance_of-d.ensures.meets in
     from_next c.loop-b.invariant c.loop-b-test.true (rw pair c.put_rows-to.ensures)
 
 pub shape_of-out : goal.shape_of-out

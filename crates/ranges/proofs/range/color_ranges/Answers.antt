@@ -11,28 +11,33 @@ pub returns-in_default : goal.returns-in_default
 returns-in_default c = answers_refused _ _ c.in_default.is (told_checks _ _ c.in_default.is c.check_clue-checked.ensures)
 
 pub returns-then-out-lt62 : goal.returns-then-out-lt62
-returns-then-out-lt62 c = let ok : ClueOk c.args.length c.args.clue.now c.in-Accepted.space = clue_ok _ _ c.in-Accepted.is c.check_clue-checked.ensures in
+returns-then-out-lt62 c =
+    let ok = clue_ok _ _ c.in-Accepted.is c.check_clue-checked.ensures in
     answers_short _ _ ok.passes (sym (ranges_words_length _ _)) c.if-out-lt62.true
 
 pub positions_number-slack-requires : goal.positions_number-slack-requires
-positions_number-slack-requires c = let ok : ClueOk c.args.length c.args.clue.now c.in-Accepted.space = clue_ok _ _ c.in-Accepted.is c.check_clue-checked.ensures in
-    let k = ok in (k.fits, k.most)
+positions_number-slack-requires c =
+    let ok = clue_ok _ _ c.in-Accepted.is c.check_clue-checked.ensures in
+    (ok.fits, ok.most)
 
 pub overflow_sub-slack : goal.overflow_sub-slack
 overflow_sub-slack c = omega (arith, c.positions_number-slack.ensures)
 
 pub overflow_cast-slack : goal.overflow_cast-slack
-overflow_cast-slack c = let ok : ClueOk c.args.length c.args.clue.now c.in-Accepted.space = clue_ok _ _ c.in-Accepted.is c.check_clue-checked.ensures in
+overflow_cast-slack c =
+    let ok = clue_ok _ _ c.in-Accepted.is c.check_clue-checked.ensures in
     omega (arith, ok, c.positions_number-slack.ensures)
 
 pub put_ranges-requires-clause-slack_bound : goal.put_ranges-requires-clause-slack_bound
-put_ranges-requires-clause-slack_bound c = let ok : ClueOk c.args.length c.args.clue.now c.in-Accepted.space = clue_ok _ _ c.in-Accepted.is c.check_clue-checked.ensures in
-    let k = ok in omega (arith, k, c.positions_number-slack.ensures)
+put_ranges-requires-clause-slack_bound c =
+    let ok = clue_ok _ _ c.in-Accepted.is c.check_clue-checked.ensures in
+    omega (arith, ok, c.positions_number-slack.ensures)
 
 pub shape_of-out : goal.shape_of-out
 shape_of-out c = c.put_ranges.auto.out
 
 pub returns : goal.returns
-returns c = let ok : ClueOk c.args.length c.args.clue.now c.in-Accepted.space = clue_ok _ _ c.in-Accepted.is c.check_clue-checked.ensures in
+returns c =
+    let ok = clue_ok _ _ c.in-Accepted.is c.check_clue-checked.ensures in
     answers_wrote _ _ ok.passes (omega (arith, ranges_words_length c.args.length c.args.clue.now, c.if-out-lt62.false))
     (ranges_wrote _ _ c.positions_number-slack.ensures ok.space_is c.put_ranges.ensures)

@@ -8,10 +8,14 @@ pub loop-i-init : goal.loop-i-init
 loop-i-init c = running_first _ _ _ c.requires.1
 
 pub overflow_mul-next : goal.overflow_mul-next
-overflow_mul-next c = let p = c.requires.0 in omega (arith, p.inside c.loop-i.i c.loop-i-test.true, p.small)
+overflow_mul-next c =
+    let p = c.requires.0 in
+    omega (arith, p.inside c.loop-i.i c.loop-i-test.true, p.small)
 
 pub overflow_add-next : goal.overflow_add-next
-overflow_add-next c = let p = c.requires.0 in omega (arith, p.inside c.loop-i.i c.loop-i-test.true, p.small)
+overflow_add-next c =
+    let p = c.requires.0 in
+    omega (arith, p.inside c.loop-i.i c.loop-i-test.true, p.small)
 
 pub bounds-cells-i : goal.bounds-cells-i
 bounds-cells-i c = c.requires.0.inside c.loop-i.i c.loop-i-test.true
@@ -20,11 +24,13 @@ pub overflow_add-size : goal.overflow_add-size
 overflow_add-size c = omega (arith, c.loop-i.invariant.small, c.requires.0.few)
 
 pub loop-i-preserved-then-next-color : goal.loop-i-preserved-then-next-color
-loop-i-preserved-then-next-color c = let h = c.loop-i-test.true in
+loop-i-preserved-then-next-color c =
+    let h = c.loop-i-test.true in
     running_same c.loop-i.invariant (strided_in _ _ _ _ h) (strided_cell _ _ _ _ _ h) (omega arith)
 
 pub put_run-to-requires : goal.put_run-to-requires
-put_run-to-requires c = let h = c.loop-i-test.true in
+put_run-to-requires c =
+    let h = c.loop-i-test.true in
     running_room c.loop-i.invariant (strided_in _ _ _ _ h) (strided_cell _ _ _ _ _ h) c.if-next-color.false
 
 pub loop-i-preserved : goal.loop-i-preserved

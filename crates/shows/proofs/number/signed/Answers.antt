@@ -21,16 +21,19 @@ pub overflow_sub-result : goal.overflow_sub-result
 overflow_sub-result c = wide_minus_fits c.args.n c.ranges.n.sfits
 
 pub overflow_cast-result : goal.overflow_cast-result
-overflow_cast-result c = let z = c.args.n in
+overflow_cast-result c =
+    let z = c.args.n in
     let m = c.ranges.n.sfits in
     rw (wide_minus_is z m, is_negative_lem z (sign z _ m c.if-n-lt0.true), neg_ℤ-neg_ℤ) (tt, record { fits = omega (arith, nat_abs-le z m) })
 
 pub overflow_add-result : goal.overflow_add-result
-overflow_add-result c = let z = c.args.n in
+overflow_add-result c =
+    let z = c.args.n in
     let m = c.ranges.n.sfits in
     rw (wide_minus_is z m, is_negative_lem z (sign z _ m c.if-n-lt0.true), neg_ℤ-neg_ℤ) (record { fits = omega (arith, nat_abs-le z m) })
 
 pub overflow_cast-result-else-n-lt0 : goal.overflow_cast-result-else-n-lt0
-overflow_cast-result-else-n-lt0 c = let z = c.args.n in
+overflow_cast-result-else-n-lt0 c =
+    let z = c.args.n in
     let m = c.ranges.n.sfits in
     rw (wide_is z m, is_positive z (sign z _ m c.if-n-lt0.false)) (tt, record { fits = omega (arith, nat_abs-le z m) })

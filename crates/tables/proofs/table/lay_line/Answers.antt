@@ -12,98 +12,122 @@ use native.Mathlib.Omega.{arith}
 use Rattle.tables.proofs.table.lay_line.Goals as goal
 
 pub offset_bounds-words-at : goal.offset_bounds-words-at
-offset_bounds-words-at c = let room_is : Room c.args.words.now c.requires.sectioned c.args.l c.requires.l_bound.0 {at = c.args.at} {first = c.args.first} c.requires.standing = room _ c.requires.sectioned _ c.requires.l_bound.0 {at = c.args.at} {first = c.args.first} c.requires.standing in
+offset_bounds-words-at c =
+    let room_is = room _ c.requires.sectioned _ c.requires.l_bound.0 {at = c.args.at} {first = c.args.first} c.requires.standing in
     omega (arith, room_is)
 
 pub bounds-words-at : goal.bounds-words-at
-bounds-words-at c = let room_is : Room c.args.words.now c.requires.sectioned c.args.l c.requires.l_bound.0 {at = c.args.at} {first = c.args.first} c.requires.standing = room _ c.requires.sectioned _ c.requires.l_bound.0 {at = c.args.at} {first = c.args.first} c.requires.standing in
+bounds-words-at c =
+    let room_is = room _ c.requires.sectioned _ c.requires.l_bound.0 {at = c.args.at} {first = c.args.first} c.requires.standing in
     omega (arith, room_is)
 
 pub overflow_cast-at : goal.overflow_cast-at
-overflow_cast-at c = let room_is : Room c.args.words.now c.requires.sectioned c.args.l c.requires.l_bound.0 {at = c.args.at} {first = c.args.first} c.requires.standing = room _ c.requires.sectioned _ c.requires.l_bound.0 {at = c.args.at} {first = c.args.first} c.requires.standing in
+overflow_cast-at c =
+    let room_is = room _ c.requires.sectioned _ c.requires.l_bound.0 {at = c.args.at} {first = c.args.first} c.requires.standing in
     omega (arith, room_is)
 
 pub overflow_cast-first : goal.overflow_cast-first
-overflow_cast-first c = let room_is : Room c.args.words.now c.requires.sectioned c.args.l c.requires.l_bound.0 {at = c.args.at} {first = c.args.first} c.requires.standing = room _ c.requires.sectioned _ c.requires.l_bound.0 {at = c.args.at} {first = c.args.first} c.requires.standing in
+overflow_cast-first c =
+    let room_is = room _ c.requires.sectioned _ c.requires.l_bound.0 {at = c.args.at} {first = c.args.first} c.requires.standing in
     omega (arith, room_is)
 
 pub overflow_mul-l : goal.overflow_mul-l
-overflow_mul-l c = let room_is : Room c.args.words.now c.requires.sectioned c.args.l c.requires.l_bound.0 {at = c.args.at} {first = c.args.first} c.requires.standing = room _ c.requires.sectioned _ c.requires.l_bound.0 {at = c.args.at} {first = c.args.first} c.requires.standing in
+overflow_mul-l c =
+    let room_is = room _ c.requires.sectioned _ c.requires.l_bound.0 {at = c.args.at} {first = c.args.first} c.requires.standing in
     omega (arith, room_is)
 
 pub put_pair-to-requires : goal.put_pair-to-requires
-put_pair-to-requires c = let room_is : Room c.args.words.now c.requires.sectioned c.args.l c.requires.l_bound.0 {at = c.args.at} {first = c.args.first} c.requires.standing = room _ c.requires.sectioned _ c.requires.l_bound.0 {at = c.args.at} {first = c.args.first} c.requires.standing in
+put_pair-to-requires c =
+    let room_is = room _ c.requires.sectioned _ c.requires.l_bound.0 {at = c.args.at} {first = c.args.first} c.requires.standing in
     omega (arith, room_is, c.requires.l_bound)
 
 pub overflow_add-at : goal.overflow_add-at
-overflow_add-at c = let room_is : Room c.args.words.now c.requires.sectioned c.args.l c.requires.l_bound.0 {at = c.args.at} {first = c.args.first} c.requires.standing = room _ c.requires.sectioned _ c.requires.l_bound.0 {at = c.args.at} {first = c.args.first} c.requires.standing in
+overflow_add-at c =
+    let room_is = room _ c.requires.sectioned _ c.requires.l_bound.0 {at = c.args.at} {first = c.args.first} c.requires.standing in
     omega (arith, room_is, c.wide-n.ensures)
 
 pub overflow_add-at-2 : goal.overflow_add-at-2
-overflow_add-at-2 c = let room_is : Room c.args.words.now c.requires.sectioned c.args.l c.requires.l_bound.0 {at = c.args.at} {first = c.args.first} c.requires.standing = room _ c.requires.sectioned _ c.requires.l_bound.0 {at = c.args.at} {first = c.args.first} c.requires.standing in
+overflow_add-at-2 c =
+    let room_is = room _ c.requires.sectioned _ c.requires.l_bound.0 {at = c.args.at} {first = c.args.first} c.requires.standing in
     omega (arith, room_is, c.wide-n.ensures)
 
 pub overflow_mul-n : goal.overflow_mul-n
-overflow_mul-n c = let room_is : Room c.args.words.now c.requires.sectioned c.args.l c.requires.l_bound.0 {at = c.args.at} {first = c.args.first} c.requires.standing = room _ c.requires.sectioned _ c.requires.l_bound.0 {at = c.args.at} {first = c.args.first} c.requires.standing in
+overflow_mul-n c =
+    let room_is = room _ c.requires.sectioned _ c.requires.l_bound.0 {at = c.args.at} {first = c.args.first} c.requires.standing in
     omega (arith, room_is, c.wide-n.ensures)
 
 pub overflow_add-at-3 : goal.overflow_add-at-3
-overflow_add-at-3 c = let room_is : Room c.args.words.now c.requires.sectioned c.args.l c.requires.l_bound.0 {at = c.args.at} {first = c.args.first} c.requires.standing = room _ c.requires.sectioned _ c.requires.l_bound.0 {at = c.args.at} {first = c.args.first} c.requires.standing in
+overflow_add-at-3 c =
+    let room_is = room _ c.requires.sectioned _ c.requires.l_bound.0 {at = c.args.at} {first = c.args.first} c.requires.standing in
     omega (arith, room_is, c.wide-n.ensures)
 
 pub offset_bounds-words-at-2 : goal.offset_bounds-words-at-2
-offset_bounds-words-at-2 c = let room_is : Room c.args.words.now c.requires.sectioned c.args.l c.requires.l_bound.0 {at = c.args.at} {first = c.args.first} c.requires.standing = room _ c.requires.sectioned _ c.requires.l_bound.0 {at = c.args.at} {first = c.args.first} c.requires.standing in
+offset_bounds-words-at-2 c =
+    let room_is = room _ c.requires.sectioned _ c.requires.l_bound.0 {at = c.args.at} {first = c.args.first} c.requires.standing in
     omega (arith, room_is, c.wide-n.ensures)
 
 pub slice_bounds-starts-count : goal.slice_bounds-starts-count
-slice_bounds-starts-count c = let room_is : Room c.args.words.now c.requires.sectioned c.args.l c.requires.l_bound.0 {at = c.args.at} {first = c.args.first} c.requires.standing = room _ c.requires.sectioned _ c.requires.l_bound.0 {at = c.args.at} {first = c.args.first} c.requires.standing in
+slice_bounds-starts-count c =
+    let room_is = room _ c.requires.sectioned _ c.requires.l_bound.0 {at = c.args.at} {first = c.args.first} c.requires.standing in
     omega (arith, room_is, c.wide-n.ensures)
 
 pub slice_bounds-starts-start : goal.slice_bounds-starts-start
-slice_bounds-starts-start c = let room_is : Room c.args.words.now c.requires.sectioned c.args.l c.requires.l_bound.0 {at = c.args.at} {first = c.args.first} c.requires.standing = room _ c.requires.sectioned _ c.requires.l_bound.0 {at = c.args.at} {first = c.args.first} c.requires.standing in
+slice_bounds-starts-start c =
+    let room_is = room _ c.requires.sectioned _ c.requires.l_bound.0 {at = c.args.at} {first = c.args.first} c.requires.standing in
     omega (arith, room_is, c.wide-n.ensures)
 
 pub slice_bounds-starts-end : goal.slice_bounds-starts-end
-slice_bounds-starts-end c = let room_is : Room c.args.words.now c.requires.sectioned c.args.l c.requires.l_bound.0 {at = c.args.at} {first = c.args.first} c.requires.standing = room _ c.requires.sectioned _ c.requires.l_bound.0 {at = c.args.at} {first = c.args.first} c.requires.standing in
+slice_bounds-starts-end c =
+    let room_is = room _ c.requires.sectioned _ c.requires.l_bound.0 {at = c.args.at} {first = c.args.first} c.requires.standing in
     omega (arith, room_is, c.wide-n.ensures)
 
 pub offset_bounds-table-to : goal.offset_bounds-table-to
-offset_bounds-table-to c = let room_is : Room c.args.words.now c.requires.sectioned c.args.l c.requires.l_bound.0 {at = c.args.at} {first = c.args.first} c.requires.standing = room _ c.requires.sectioned _ c.requires.l_bound.0 {at = c.args.at} {first = c.args.first} c.requires.standing in
+offset_bounds-table-to c =
+    let room_is = room _ c.requires.sectioned _ c.requires.l_bound.0 {at = c.args.at} {first = c.args.first} c.requires.standing in
     omega (arith, room_is, c.requires.l_bound, c.put_pair-to.ensures, c.put_pair-to.auto)
 
 pub slice_bounds-starts-count-2 : goal.slice_bounds-starts-count-2
-slice_bounds-starts-count-2 c = let room_is : Room c.args.words.now c.requires.sectioned c.args.l c.requires.l_bound.0 {at = c.args.at} {first = c.args.first} c.requires.standing = room _ c.requires.sectioned _ c.requires.l_bound.0 {at = c.args.at} {first = c.args.first} c.requires.standing in
+slice_bounds-starts-count-2 c =
+    let room_is = room _ c.requires.sectioned _ c.requires.l_bound.0 {at = c.args.at} {first = c.args.first} c.requires.standing in
     omega (arith, room_is, c.requires.l_bound, c.put_pair-to.ensures, c.put_pair-to.auto)
 
 pub slice_bounds-starts-start-2 : goal.slice_bounds-starts-start-2
-slice_bounds-starts-start-2 c = let room_is : Room c.args.words.now c.requires.sectioned c.args.l c.requires.l_bound.0 {at = c.args.at} {first = c.args.first} c.requires.standing = room _ c.requires.sectioned _ c.requires.l_bound.0 {at = c.args.at} {first = c.args.first} c.requires.standing in
+slice_bounds-starts-start-2 c =
+    let room_is = room _ c.requires.sectioned _ c.requires.l_bound.0 {at = c.args.at} {first = c.args.first} c.requires.standing in
     omega (arith, room_is, c.requires.l_bound, c.put_pair-to.ensures, c.put_pair-to.auto)
 
 pub returns-in_default-clause-result_value : goal.returns-in_default-clause-result_value
-returns-in_default-clause-result_value c = let short = lay_refused _ c.requires.sectioned _ c.requires.l_bound.0 {at = c.args.at} {first = c.args.first} c.requires.standing c.requires.l_bound.1 _ c.requires.l_bound.2 c.put_pair-to.ensures c.wide-n.ensures c.starts-answer.ensures c.in_default.is in rw (lt-ltb _ _ short)
+returns-in_default-clause-result_value c =
+    let short = lay_refused _ c.requires.sectioned _ c.requires.l_bound.0 {at = c.args.at} {first = c.args.first} c.requires.standing c.requires.l_bound.1 _ c.requires.l_bound.2 c.put_pair-to.ensures c.wide-n.ensures c.starts-answer.ensures c.in_default.is in
+    rw (lt-ltb _ _ short)
 
 pub returns-in_default-clause-by_index : goal.returns-in_default-clause-by_index
-returns-in_default-clause-by_index c = let short = lay_refused _ c.requires.sectioned _ c.requires.l_bound.0 {at = c.args.at} {first = c.args.first} c.requires.standing c.requires.l_bound.1 _ c.requires.l_bound.2 c.put_pair-to.ensures c.wide-n.ensures c.starts-answer.ensures c.in_default.is in λ f. absurd (omega (arith, short, f))
+returns-in_default-clause-by_index c =
+    let short = lay_refused _ c.requires.sectioned _ c.requires.l_bound.0 {at = c.args.at} {first = c.args.first} c.requires.standing c.requires.l_bound.1 _ c.requires.l_bound.2 c.put_pair-to.ensures c.wide-n.ensures c.starts-answer.ensures c.in_default.is in
+    λ f. absurd (omega (arith, short, f))
 
 pub offset_bounds-table-to-2 : goal.offset_bounds-table-to-2
-offset_bounds-table-to-2 c = let room_is : Room c.args.words.now c.requires.sectioned c.args.l c.requires.l_bound.0 {at = c.args.at} {first = c.args.first} c.requires.standing = room _ c.requires.sectioned _ c.requires.l_bound.0 {at = c.args.at} {first = c.args.first} c.requires.standing in
+offset_bounds-table-to-2 c =
+    let room_is = room _ c.requires.sectioned _ c.requires.l_bound.0 {at = c.args.at} {first = c.args.first} c.requires.standing in
     omega (arith, room_is, c.put_pair-to.ensures)
 
 pub bounds-table-to : goal.bounds-table-to
-bounds-table-to c = let room_is : Room c.args.words.now c.requires.sectioned c.args.l c.requires.l_bound.0 {at = c.args.at} {first = c.args.first} c.requires.standing = room _ c.requires.sectioned _ c.requires.l_bound.0 {at = c.args.at} {first = c.args.first} c.requires.standing in
+bounds-table-to c =
+    let room_is = room _ c.requires.sectioned _ c.requires.l_bound.0 {at = c.args.at} {first = c.args.first} c.requires.standing in
     omega (arith, room_is, c.put_pair-to.ensures, c.requires.l_bound, lay_kept _ c.requires.sectioned _ c.requires.l_bound.0 {at = c.args.at} {first = c.args.first} c.requires.standing c.requires.l_bound.1 _ c.requires.l_bound.2 c.put_pair-to.ensures c.wide-n.ensures c.starts-answer.ensures c.in-Accepted.is)
 
 pub overflow_mul-result : goal.overflow_mul-result
-overflow_mul-result c = let room_is : Room c.args.words.now c.requires.sectioned c.args.l c.requires.l_bound.0 {at = c.args.at} {first = c.args.first} c.requires.standing = room _ c.requires.sectioned _ c.requires.l_bound.0 {at = c.args.at} {first = c.args.first} c.requires.standing in
+overflow_mul-result c =
+    let room_is = room _ c.requires.sectioned _ c.requires.l_bound.0 {at = c.args.at} {first = c.args.first} c.requires.standing in
     let vars : (c.wide-n.result * c.wide.result) ≡ length (clue_at (puzzle c.args.words.now) c.args.l) * positions_at (puzzle c.args.words.now) c.args.l = ap₂ ◌*◌ (c.wide-n.ensures ∙ room_is.count_is) (c.wide.ensures ∙ lay_positions _ c.requires.sectioned _ c.requires.l_bound.0 {at = c.args.at} {first = c.args.first} c.requires.standing c.requires.l_bound.1 _ c.requires.l_bound.2 c.put_pair-to.ensures c.wide-n.ensures c.starts-answer.ensures c.in-Accepted.is) in
     omega (arith, vars, line_vars (puzzle c.args.words.now) c.args.l room_is.few (size_within _ (line_fine _ c.requires.sectioned _ c.requires.l_bound.0).sized))
 
 pub returns-clause-result_value : goal.returns-clause-result_value
-returns-clause-result_value c = let room_is : Room c.args.words.now c.requires.sectioned c.args.l c.requires.l_bound.0 {at = c.args.at} {first = c.args.first} c.requires.standing = room _ c.requires.sectioned _ c.requires.l_bound.0 {at = c.args.at} {first = c.args.first} c.requires.standing in
+returns-clause-result_value c =
+    let room_is = room _ c.requires.sectioned _ c.requires.l_bound.0 {at = c.args.at} {first = c.args.first} c.requires.standing in
     let vars : (c.wide-n.result * c.wide.result) ≡ length (clue_at (puzzle c.args.words.now) c.args.l) * positions_at (puzzle c.args.words.now) c.args.l = ap₂ ◌*◌ (c.wide-n.ensures ∙ room_is.count_is) (c.wide.ensures ∙ lay_positions _ c.requires.sectioned _ c.requires.l_bound.0 {at = c.args.at} {first = c.args.first} c.requires.standing c.requires.l_bound.1 _ c.requires.l_bound.2 c.put_pair-to.ensures c.wide-n.ensures c.starts-answer.ensures c.in-Accepted.is) in
-    let fits = lay_fits _ c.requires.sectioned _ c.requires.l_bound.0 {at = c.args.at} {first = c.args.first} c.requires.standing c.requires.l_bound.1 _ c.requires.l_bound.2 c.put_pair-to.ensures c.wide-n.ensures c.starts-answer.ensures c.in-Accepted.is in rw (le-ltb _ _ fits) (ap accepted vars)
+    let fits = lay_fits _ c.requires.sectioned _ c.requires.l_bound.0 {at = c.args.at} {first = c.args.first} c.requires.standing c.requires.l_bound.1 _ c.requires.l_bound.2 c.put_pair-to.ensures c.wide-n.ensures c.starts-answer.ensures c.in-Accepted.is in
+    rw (le-ltb _ _ fits) (ap accepted vars)
 
 pub returns-clause-by_index : goal.returns-clause-by_index
-returns-clause-by_index c = let room_is : Room c.args.words.now c.requires.sectioned c.args.l c.requires.l_bound.0 {at = c.args.at} {first = c.args.first} c.requires.standing = room _ c.requires.sectioned _ c.requires.l_bound.0 {at = c.args.at} {first = c.args.first} c.requires.standing in
-    let vars : (c.wide-n.result * c.wide.result) ≡ length (clue_at (puzzle c.args.words.now) c.args.l) * positions_at (puzzle c.args.words.now) c.args.l = ap₂ ◌*◌ (c.wide-n.ensures ∙ room_is.count_is) (c.wide.ensures ∙ lay_positions _ c.requires.sectioned _ c.requires.l_bound.0 {at = c.args.at} {first = c.args.first} c.requires.standing c.requires.l_bound.1 _ c.requires.l_bound.2 c.put_pair-to.ensures c.wide-n.ensures c.starts-answer.ensures c.in-Accepted.is) in
-    let fits = lay_fits _ c.requires.sectioned _ c.requires.l_bound.0 {at = c.args.at} {first = c.args.first} c.requires.standing c.requires.l_bound.1 _ c.requires.l_bound.2 c.put_pair-to.ensures c.wide-n.ensures c.starts-answer.ensures c.in-Accepted.is in λ f. (_, lay_wrote _ c.requires.sectioned _ c.requires.l_bound.0 {at = c.args.at} {first = c.args.first} c.requires.standing c.requires.l_bound.1 _ c.requires.l_bound.2 c.put_pair-to.ensures c.wide-n.ensures c.starts-answer.ensures c.in-Accepted.is)
+returns-clause-by_index c = λ f. (_, lay_wrote _ c.requires.sectioned _ c.requires.l_bound.0 {at = c.args.at} {first = c.args.first} c.requires.standing c.requires.l_bound.1 _ c.requires.l_bound.2 c.put_pair-to.ensures c.wide-n.ensures c.starts-answer.ensures c.in-Accepted.is)

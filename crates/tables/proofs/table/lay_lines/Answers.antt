@@ -15,18 +15,15 @@ pub loop-l-init : goal.loop-l-init
 loop-l-init c = (omega (arith, c.requires.width_value), (refl, laying_first _ _ (size_some _ (walked_sections 0 c.args.words.now c.requires.sectioned).fine.columns.0)))
 
 pub lay_line-laid-requires-clause-sectioned : goal.lay_line-laid-requires-clause-sectioned
-lay_line-laid-requires-clause-sectioned c = let in_line : c.loop-l.l < P.lines (puzzle c.args.words.now) = omega (arith, c.loop-l.invariant.0, c.loop-l-test.true) in
-    let cells_are : c.line_length-cells.result ≡ P.length_at (puzzle c.args.words.now) c.loop-l.l = line_length_is (puzzle c.args.words.now) _ c.requires.width_value.0 c.requires.width_value.1 c.line_length-cells.ensures in
-    c.requires.sectioned
+lay_line-laid-requires-clause-sectioned c = c.requires.sectioned
 
 pub lay_line-laid-requires-clause-standing : goal.lay_line-laid-requires-clause-standing
-lay_line-laid-requires-clause-standing c = let in_line : c.loop-l.l < P.lines (puzzle c.args.words.now) = omega (arith, c.loop-l.invariant.0, c.loop-l-test.true) in
-    let cells_are : c.line_length-cells.result ≡ P.length_at (puzzle c.args.words.now) c.loop-l.l = line_length_is (puzzle c.args.words.now) _ c.requires.width_value.0 c.requires.width_value.1 c.line_length-cells.ensures in
-    c.loop-l.invariant.1.1.stands
+lay_line-laid-requires-clause-standing c = c.loop-l.invariant.1.1.stands
 
 pub lay_line-laid-requires-clause-l_bound : goal.lay_line-laid-requires-clause-l_bound
-lay_line-laid-requires-clause-l_bound c = let in_line : c.loop-l.l < P.lines (puzzle c.args.words.now) = omega (arith, c.loop-l.invariant.0, c.loop-l-test.true) in
-    let cells_are : c.line_length-cells.result ≡ P.length_at (puzzle c.args.words.now) c.loop-l.l = line_length_is (puzzle c.args.words.now) _ c.requires.width_value.0 c.requires.width_value.1 c.line_length-cells.ensures in
+lay_line-laid-requires-clause-l_bound c =
+    let in_line : c.loop-l.l < P.lines (puzzle c.args.words.now) = omega (arith, c.loop-l.invariant.0, c.loop-l-test.true) in
+    let cells_are = line_length_is (puzzle c.args.words.now) _ c.requires.width_value.0 c.requires.width_value.1 c.line_length-cells.ensures in
     (in_line, cells_are, omega (arith, c.loop-l.invariant.1.0, c.requires.width_value))
 
 pub shape_of-table-in_default : goal.shape_of-table-in_default
@@ -35,53 +32,62 @@ shape_of-table-in_default c = c.lay_line-laid.auto.table ∙ c.loop-l.invariant.
 pub returns-in_default : goal.returns-in_default
 returns-in_default c =
     let in_line : c.loop-l.l < P.lines (puzzle c.args.words.now) = omega (arith, c.loop-l.invariant.0, c.loop-l-test.true) in
-    let cells_are : c.line_length-cells.result ≡ P.length_at (puzzle c.args.words.now) c.loop-l.l = line_length_is (puzzle c.args.words.now) _ c.requires.width_value.0 c.requires.width_value.1 c.line_length-cells.ensures in
+    let cells_are = line_length_is (puzzle c.args.words.now) _ c.requires.width_value.0 c.requires.width_value.1 c.line_length-cells.ensures in
     let short = laying_short _ c.requires.sectioned c.loop-l.invariant.1.1 in_line cells_are c.in_default.is c.lay_line-laid.ensures.result_value in
     record { result_value = short.0; laid = short.1 }
 
 pub overflow_add-first : goal.overflow_add-first
-overflow_add-first c = let in_line : c.loop-l.l < P.lines (puzzle c.args.words.now) = omega (arith, c.loop-l.invariant.0, c.loop-l-test.true) in
-    let room_is : Room c.args.words.now c.requires.sectioned c.loop-l.l in_line c.loop-l.invariant.1.1.stands = room _ c.requires.sectioned _ in_line c.loop-l.invariant.1.1.stands in
+overflow_add-first c =
+    let in_line : c.loop-l.l < P.lines (puzzle c.args.words.now) = omega (arith, c.loop-l.invariant.0, c.loop-l-test.true) in
+    let room_is = room _ c.requires.sectioned _ in_line c.loop-l.invariant.1.1.stands in
     omega (arith, room_is, laying_vars _ c.requires.sectioned c.loop-l.invariant.1.1 in_line _ c.in-Accepted.is c.lay_line-laid.ensures.result_value)
 
 pub offset_bounds-words-at : goal.offset_bounds-words-at
-offset_bounds-words-at c = let in_line : c.loop-l.l < P.lines (puzzle c.args.words.now) = omega (arith, c.loop-l.invariant.0, c.loop-l-test.true) in
-    let room_is : Room c.args.words.now c.requires.sectioned c.loop-l.l in_line c.loop-l.invariant.1.1.stands = room _ c.requires.sectioned _ in_line c.loop-l.invariant.1.1.stands in
+offset_bounds-words-at c =
+    let in_line : c.loop-l.l < P.lines (puzzle c.args.words.now) = omega (arith, c.loop-l.invariant.0, c.loop-l-test.true) in
+    let room_is = room _ c.requires.sectioned _ in_line c.loop-l.invariant.1.1.stands in
     omega (arith, room_is)
 
 pub bounds-words-at : goal.bounds-words-at
-bounds-words-at c = let in_line : c.loop-l.l < P.lines (puzzle c.args.words.now) = omega (arith, c.loop-l.invariant.0, c.loop-l-test.true) in
-    let room_is : Room c.args.words.now c.requires.sectioned c.loop-l.l in_line c.loop-l.invariant.1.1.stands = room _ c.requires.sectioned _ in_line c.loop-l.invariant.1.1.stands in
+bounds-words-at c =
+    let in_line : c.loop-l.l < P.lines (puzzle c.args.words.now) = omega (arith, c.loop-l.invariant.0, c.loop-l-test.true) in
+    let room_is = room _ c.requires.sectioned _ in_line c.loop-l.invariant.1.1.stands in
     omega (arith, room_is)
 
 pub overflow_add-at : goal.overflow_add-at
-overflow_add-at c = let in_line : c.loop-l.l < P.lines (puzzle c.args.words.now) = omega (arith, c.loop-l.invariant.0, c.loop-l-test.true) in
-    let room_is : Room c.args.words.now c.requires.sectioned c.loop-l.l in_line c.loop-l.invariant.1.1.stands = room _ c.requires.sectioned _ in_line c.loop-l.invariant.1.1.stands in
+overflow_add-at c =
+    let in_line : c.loop-l.l < P.lines (puzzle c.args.words.now) = omega (arith, c.loop-l.invariant.0, c.loop-l-test.true) in
+    let room_is = room _ c.requires.sectioned _ in_line c.loop-l.invariant.1.1.stands in
     omega (arith, room_is, c.wide-n.ensures)
 
 pub overflow_mul-n : goal.overflow_mul-n
-overflow_mul-n c = let in_line : c.loop-l.l < P.lines (puzzle c.args.words.now) = omega (arith, c.loop-l.invariant.0, c.loop-l-test.true) in
-    let room_is : Room c.args.words.now c.requires.sectioned c.loop-l.l in_line c.loop-l.invariant.1.1.stands = room _ c.requires.sectioned _ in_line c.loop-l.invariant.1.1.stands in
+overflow_mul-n c =
+    let in_line : c.loop-l.l < P.lines (puzzle c.args.words.now) = omega (arith, c.loop-l.invariant.0, c.loop-l-test.true) in
+    let room_is = room _ c.requires.sectioned _ in_line c.loop-l.invariant.1.1.stands in
     omega (arith, room_is, c.wide-n.ensures)
 
 pub overflow_add-at-in-loop-l : goal.overflow_add-at-in-loop-l
-overflow_add-at-in-loop-l c = let in_line : c.loop-l.l < P.lines (puzzle c.args.words.now) = omega (arith, c.loop-l.invariant.0, c.loop-l-test.true) in
-    let room_is : Room c.args.words.now c.requires.sectioned c.loop-l.l in_line c.loop-l.invariant.1.1.stands = room _ c.requires.sectioned _ in_line c.loop-l.invariant.1.1.stands in
+overflow_add-at-in-loop-l c =
+    let in_line : c.loop-l.l < P.lines (puzzle c.args.words.now) = omega (arith, c.loop-l.invariant.0, c.loop-l-test.true) in
+    let room_is = room _ c.requires.sectioned _ in_line c.loop-l.invariant.1.1.stands in
     omega (arith, room_is, c.wide-n.ensures)
 
 pub next_begin-at-requires : goal.next_begin-at-requires
-next_begin-at-requires c = let in_line : c.loop-l.l < P.lines (puzzle c.args.words.now) = omega (arith, c.loop-l.invariant.0, c.loop-l-test.true) in
-    let room_is : Room c.args.words.now c.requires.sectioned c.loop-l.l in_line c.loop-l.invariant.1.1.stands = room _ c.requires.sectioned _ in_line c.loop-l.invariant.1.1.stands in
+next_begin-at-requires c =
+    let in_line : c.loop-l.l < P.lines (puzzle c.args.words.now) = omega (arith, c.loop-l.invariant.0, c.loop-l-test.true) in
+    let room_is = room _ c.requires.sectioned _ in_line c.loop-l.invariant.1.1.stands in
     (omega (arith, room_is, c.wide-n.ensures), omega (arith, room_is))
 
 pub overflow_step-l : goal.overflow_step-l
-overflow_step-l c = let in_line : c.loop-l.l < P.lines (puzzle c.args.words.now) = omega (arith, c.loop-l.invariant.0, c.loop-l-test.true) in
-    let room_is : Room c.args.words.now c.requires.sectioned c.loop-l.l in_line c.loop-l.invariant.1.1.stands = room _ c.requires.sectioned _ in_line c.loop-l.invariant.1.1.stands in
+overflow_step-l c =
+    let in_line : c.loop-l.l < P.lines (puzzle c.args.words.now) = omega (arith, c.loop-l.invariant.0, c.loop-l-test.true) in
+    let room_is = room _ c.requires.sectioned _ in_line c.loop-l.invariant.1.1.stands in
     omega (arith, room_is)
 
 pub loop-l-preserved : goal.loop-l-preserved
-loop-l-preserved c = let in_line : c.loop-l.l < P.lines (puzzle c.args.words.now) = omega (arith, c.loop-l.invariant.0, c.loop-l-test.true) in
-    let cells_are : c.line_length-cells.result ≡ P.length_at (puzzle c.args.words.now) c.loop-l.l = line_length_is (puzzle c.args.words.now) _ c.requires.width_value.0 c.requires.width_value.1 c.line_length-cells.ensures in
+loop-l-preserved c =
+    let in_line : c.loop-l.l < P.lines (puzzle c.args.words.now) = omega (arith, c.loop-l.invariant.0, c.loop-l-test.true) in
+    let cells_are = line_length_is (puzzle c.args.words.now) _ c.requires.width_value.0 c.requires.width_value.1 c.line_length-cells.ensures in
     (c.loop-l.invariant.0, (c.lay_line-laid.auto.table ∙ c.loop-l.invariant.1.0, laying_next _ c.requires.sectioned c.loop-l.invariant.1.1 in_line (omega (arith, c.loop-l.invariant.1.0, c.requires.width_value)) cells_are c.in-Accepted.is c.lay_line-laid.ensures.result_value c.lay_line-laid.ensures.by_index c.wide-n.ensures c.requires.width_value.0 c.next_begin-at.ensures))
 
 pub shape_of-table : goal.shape_of-table

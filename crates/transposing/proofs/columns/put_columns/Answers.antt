@@ -3,10 +3,13 @@ use Rattle.grids.proofs.Cells.{columns_first, columns_room, columns_done}
 use Rattle.transposing.proofs.columns.put_columns.Goals as goal
 
 pub loop-x-init : goal.loop-x-init
-loop-x-init c = let p = c.requires in columns_first p.0 _ p.1
+loop-x-init c =
+    let p = c.requires in
+    columns_first p.0 _ p.1
 
 pub put_column-at-requires : goal.put_column-at-requires
-put_column-at-requires c = let t = c.loop-x-test.true in
+put_column-at-requires c =
+    let t = c.loop-x-test.true in
     let S = c.requires.0 in
     (S, t, columns_room S c.loop-x.invariant t)
 

@@ -10,16 +10,19 @@ pub returns-in_default : goal.returns-in_default
 returns-in_default c = answers_refused _ _ c.in_default.is c.check_size-checked.ensures
 
 pub returns-then-out-grid : goal.returns-then-out-grid
-returns-then-out-grid c = let e = sym (ap checked c.in-Accepted.is) ∙ c.check_size-checked.ensures in
+returns-then-out-grid c =
+    let e = sym (ap checked c.in-Accepted.is) ∙ c.check_size-checked.ensures in
     answers_short _ _ e (transposed_size (size_ok e)) c.if-out-grid.true
 
 pub put_columns-requires : goal.put_columns-requires
-put_columns-requires c = let e = sym (ap checked c.in-Accepted.is) ∙ c.check_size-checked.ensures in
+put_columns-requires c =
+    let e = sym (ap checked c.in-Accepted.is) ∙ c.check_size-checked.ensures in
     (size_ok e, c.if-out-grid.false)
 
 pub shape_of-out : goal.shape_of-out
 shape_of-out c = c.put_columns.auto.out
 
 pub returns : goal.returns
-returns c = let e = sym (ap checked c.in-Accepted.is) ∙ c.check_size-checked.ensures in
+returns c =
+    let e = sym (ap checked c.in-Accepted.is) ∙ c.check_size-checked.ensures in
     answers_wrote _ _ e (omega (arith, transposed_size (size_ok e), c.if-out-grid.false)) c.put_columns.ensures
