@@ -9,23 +9,23 @@ ghost use Rattle.lines.specs.Calls.{block_checks, clue_checks, starts_words};
 
 use crate::gap::gap;
 use crate::limits::{off_color, off_size};
-use refusals::{Answer, Refusal};
+use refusals::Refusal;
 
 // The first word that is no size or no colour.
-fn check_blocks(clue: &[u32]) -> Answer
+fn check_blocks(clue: &[u32]) -> Result<(), Refusal>
     ensures { checked result ≡ block_checks 0 clue.now }
 {
     let mut i = 0;
     while i + 1 < clue.len() {
         if clue[i] == 0 {
-            return Answer::Refused(Refusal::EmptyBlock(i));
+            return Err(Refusal::EmptyBlock(i));
         }
         if off_color(clue[i + 1]) {
-            return Answer::Refused(Refusal::BlockColor(i + 1));
+            return Err(Refusal::BlockColor(i + 1));
         }
         i += 2;
     }
-    Answer::Accepted(0)
+    Ok(())
 }
 
 // The end of the last block; 64 sizes of 32 bits do not wrap in 64.
@@ -46,27 +46,24 @@ fn min_space(clue: &[u32]) -> u64
 }
 
 // Where the clue is one of a line of that length: its least space.
-pub fn check_clue(length: usize, clue: &[u32]) -> Answer
+pub fn check_clue(length: usize, clue: &[u32]) -> Result<usize, Refusal>
     ensures { told result ≡ and_then (clue_checks length clue.now) (accepted (Clue.min_space Clue.gap (Clue.blocks clue.now))) }
 {
     if off_size(length) {
-        return Answer::Refused(Refusal::Size(0));
+        return Err(Refusal::Size(0));
     }
     if clue.len() % 2 == 1 {
-        return Answer::Refused(Refusal::WordMissing(clue.len()));
+        return Err(Refusal::WordMissing(clue.len()));
     }
     if 64 < clue.len() / 2 {
-        return Answer::Refused(Refusal::TooManyBlocks(0));
+        return Err(Refusal::TooManyBlocks(0));
     }
-    let checked = check_blocks(clue);
-    let Answer::Accepted(_) = checked else {
-        return checked;
-    };
+    check_blocks(clue)?;
     let space = min_space(clue);
     if (length as u64) < space {
-        return Answer::Refused(Refusal::LineTooShort(0));
+        return Err(Refusal::LineTooShort(0));
     }
-    Answer::Accepted(space as usize)
+    Ok(space as usize)
 }
 
 // The positions of each block.
@@ -100,18 +97,15 @@ fn block_starts(clue: &[u32], out: &mut [u32], from: usize) -> usize
 }
 
 // The positions, the least space, then the starts.
-pub fn starts(length: usize, clue: &[u32], out: &mut [u32]) -> Answer
+pub fn starts(length: usize, clue: &[u32], out: &mut [u32]) -> Result<usize, Refusal>
     ensures { Answers (clue_checks length clue.now) (starts_words length clue.now) out.old result out.new }
 {
-    let checked = check_clue(length, clue);
-    let Answer::Accepted(space) = checked else {
-        return checked;
-    };
+    let space = check_clue(length, clue)?;
     let need = 2 + clue.len() / 2;
     if out.len() < need {
-        return Answer::Refused(Refusal::OutputTooShort(need));
+        return Err(Refusal::OutputTooShort(need));
     }
     out[0] = positions_number(length, space) as u32;
     out[1] = space as u32;
-    Answer::Accepted(block_starts(clue, out, 2))
+    Ok(block_starts(clue, out, 2))
 }

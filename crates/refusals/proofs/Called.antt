@@ -6,17 +6,16 @@ use native.Mathlib.Nat.{zero-add}
 use lib.Dec.{ltb}
 use lib.ListN.{length}
 use borrow.Author.Tests.{le-ltb, ltb-false}
+use Rattle.std.specs.Prelude.{Result, Ok, Err}
 use Rattle.lists.specs.Wrote.{Wrote, over}
 use Rattle.refusals.specs.declared.Refusal.{Refusal}
-use Rattle.refusals.specs.declared.Answer.{Answer}
-use Rattle.refusals.specs.declared.Answer.TheVariants.{Accepted, Refused}
 use Rattle.refusals.specs.Verdict.{Checks, accepted, refused, passed, and_then}
 use Rattle.refusals.specs.Told.{told, checked}
 use Rattle.refusals.specs.Outcome.{Answers, verdict, fits, kept}
 use Rattle.refusals.proofs.Answering.{refused_told, refused_not, told_checks, refuse_accepted, then_accepted, first_accepted}
 
-module _ {A : Type 0} {checks : Checks} {ws out out' : List A} {a : Answer} (given : Answers checks ws out a out') where
-  module _ {why : Refusal} (r : a ≡ Refused why) where
+module _ {A : Type 0} {checks : Checks} {ws out out' : List A} {a : Result ℕ Refusal} (given : Answers checks ws out a out') where
+  module _ {why : Refusal} (r : a ≡ Err why) where
     -- with room it was one of the checks
     pub refused_by : length ws ≤ length out → checked a ≡ checks
     refused_by room = go checks given.answer_is
@@ -37,7 +36,7 @@ module _ {A : Type 0} {checks : Checks} {ws out out' : List A} {a : Answer} (giv
       then_then (accepted x) = refl
       then_then (refused k p) = refl
 
-  module _ {used : ℕ} (r : a ≡ Accepted used) where
+  module _ {used : ℕ} (r : a ≡ Ok used) where
     e : accepted used ≡ verdict checks ws out
     e = ap told (sym r) ∙ given.answer_is
 

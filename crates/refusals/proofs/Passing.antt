@@ -8,10 +8,9 @@ use native.Mathlib.Nat.{add-zero}
 use lib.ListN.{length, take, drop, get_or, length-append, length-drop}
 use lib.Seq.{drop_at, drop-drop, get_or-drop}
 use borrow.Author.Tests.{lt-ltb, le-ltb}
+use Rattle.std.specs.Prelude.{Result, Ok, Err}
 use Rattle.lists.proofs.Writing.{tail_is}
 use Rattle.refusals.specs.declared.Refusal.{Refusal}
-use Rattle.refusals.specs.declared.Answer.{Answer}
-use Rattle.refusals.specs.declared.Answer.TheVariants.{Accepted, Refused}
 use Rattle.refusals.specs.Verdict.{Verdict, accepted, refused, passed}
 use Rattle.refusals.specs.Told.{told, checked}
 use Rattle.refusals.specs.Walk.{Walk, got, outcome, walked, stop_if, stop, word, times, counted}
@@ -72,18 +71,18 @@ module _ {B A : Type 0} where
 
   -- the next one is read from the part that is left, `&part[i..]`
   module _ {f : ℕ → List B → Walk B A} {n at l i : ℕ} {part : List B} (P : Passing f n at part l i)
-      (a : Answer) (told_is : told a ≡ outcome (f (at + i) (take (length part - i) (drop i part)))) where
+      (a : Result ℕ Refusal) (told_is : told a ≡ outcome (f (at + i) (take (length part - i) (drop i part)))) where
     e : told a ≡ outcome (f (at + i) (drop i part))
     e = rw (tail_is part i) at told_is
 
-    pub passing_stop : l < n → {why : Refusal} → a ≡ Refused why → told a ≡ outcome (times n f at part)
+    pub passing_stop : l < n → {why : Refusal} → a ≡ Err why → told a ≡ outcome (times n f at part)
     unfolding times
     passing_stop h {why} r =
         let m : n - l ≡ suc (n - l - 1) = omega arith in
         let t = refused_told r in
         t ∙ sym (P.same ∙ rw m (next_refused (f (at + i) (drop i part)) _ (sym e ∙ t)))
 
-    module _ {W : A → List B} {Fine : A → Type 0} (R : Reader f W Fine) {j : ℕ} (r : a ≡ Accepted j) where
+    module _ {W : A → List B} {Fine : A → Type 0} (R : Reader f W Fine) {j : ℕ} (r : a ≡ Ok j) where
       read : Got (f (at + i) (drop i part)) j
       read = outcome_got (f (at + i) (drop i part)) (sym (ap told r) ∙ e)
 
@@ -136,12 +135,12 @@ module _ {B A : Type 0} (d : B) (size : B → ℕ) (m : ℕ) (off : B → Bool) 
 
 -- ---- the whole, and what it leaves
 
-module _ {B A : Type 0} (k : ℕ) (w : Walk B A) {a : Answer} (told_is : told a ≡ outcome w) where
-  pub walked_refused : {why : Refusal} → a ≡ Refused why → checked a ≡ walked k w
+module _ {B A : Type 0} (k : ℕ) (w : Walk B A) {a : Result ℕ Refusal} (told_is : told a ≡ outcome w) where
+  pub walked_refused : {why : Refusal} → a ≡ Err why → checked a ≡ walked k w
   unfolding walked
   walked_refused {why} r = ap checked r ∙ refusal_is why ∙ rw (stopped w (sym told_is ∙ refused_told r))
 
-  module _ {W : A → List B} {Fine : A → Type 0} {at : ℕ} {ws : List B} (only : (b : A) (j : ℕ) (us : List B) → w ≡ got b j us → Reads W Fine at ws b j us) {end : ℕ} (r : a ≡ Accepted end) where
+  module _ {W : A → List B} {Fine : A → Type 0} {at : ℕ} {ws : List B} (only : (b : A) (j : ℕ) (us : List B) → w ≡ got b j us → Reads W Fine at ws b j us) {end : ℕ} (r : a ≡ Ok end) where
     G : Got w end
     G = outcome_got w (sym (ap told r) ∙ told_is)
 

@@ -1,7 +1,7 @@
 -- What a call with a lent buffer answers and leaves: one form for every entry. `checks` are its refusals before 12, and ws what it writes.
-use Rattle.std.specs.Prelude.{◌≡◌, List, ℕ, length, ltb}
+use Rattle.std.specs.Prelude.{◌≡◌, List, ℕ, Result, length, ltb}
 use Rattle.lists.specs.Wrote.{over}
-use Rattle.refusals.specs.declared.Answer.{Answer}
+use Rattle.refusals.specs.declared.Refusal.{Refusal}
 use Rattle.refusals.specs.Verdict.{Verdict, Checks, accepted, refused, passed, number, place, refuse, and_then}
 use Rattle.refusals.specs.Told.{told}
 
@@ -20,7 +20,7 @@ module _ {A : Type 0} where
   kept (refused k p) ws out = out
 
   -- an answer of the code, with the buffer that it leaves
-  pub record Answers (checks : Checks) (ws out : List A) (answer : Answer) (out' : List A) : Type 0 where
+  pub record Answers (checks : Checks) (ws out : List A) (answer : Result ℕ Refusal) (out' : List A) : Type 0 where
     pub answer_is : told answer ≡ verdict checks ws out
     pub out_is : out' ≡ kept (verdict checks ws out) ws out
 

@@ -1,9 +1,7 @@
 -- The number and the place that each case of the answer stands for.
-use Rattle.std.specs.Prelude.{ℕ}
+use Rattle.std.specs.Prelude.{ℕ, Result, Ok, Err}
 use Rattle.refusals.specs.declared.Refusal.{Refusal}
 use Rattle.refusals.specs.declared.Refusal.TheVariants.{WordMissing, Size, TooManyBlocks, EmptyBlock, BlockColor, LineTooShort, CellCount, EmptyMask, ColumnColor, SolvedColor, LeftOver, OutputTooShort, ModelLength, ModelByte, FalseClause, TwoColors, OffGrid, ColorTooLarge, ProbeColor, TooManyProbeWords, DimacsLimit, ClauseWords, ProgramInput}
-use Rattle.refusals.specs.declared.Answer.{Answer}
-use Rattle.refusals.specs.declared.Answer.TheVariants.{Accepted, Refused}
 use Rattle.refusals.specs.Verdict.{Verdict, Checks, accepted, refused, passed}
 
 abbrev pub refusal : {A : Type 0} → Refusal → Verdict A
@@ -31,12 +29,12 @@ refusal (DimacsLimit p) = refused 21 p
 refusal (ClauseWords p) = refused 22 p
 refusal (ProgramInput p) = refused 23 p
 
--- with the number that was found
-abbrev pub told : Answer → Verdict ℕ
-told (Accepted n) = accepted n
-told (Refused why) = refusal why
+-- with what was found
+abbrev pub told : {A : Type 0} → Result A Refusal → Verdict A
+told (Ok a) = accepted a
+told (Err why) = refusal why
 
 -- and without it: what the checks said
-abbrev pub checked : Answer → Checks
-checked (Accepted n) = passed
-checked (Refused why) = refusal why
+abbrev pub checked : {A : Type 0} → Result A Refusal → Checks
+checked (Ok a) = passed
+checked (Err why) = refusal why

@@ -6,7 +6,7 @@ ghost use Rattle.refusals.specs.Told.{refusal, told};
 ghost use Rattle.refusals.specs.Verdict.{number, place};
 
 // A variant for each number of document 01, in its order, with the place.
-#[derive(Clone, Copy)]
+#[derive(Clone, Copy, Debug, PartialEq, Eq)]
 pub enum Refusal {
     WordMissing(usize),
     Size(usize),
@@ -68,55 +68,40 @@ impl Refusal {
         ensures { result ≡ place (refusal self) }
     {
         match self {
-            Refusal::WordMissing(p) => p,
-            Refusal::Size(p) => p,
-            Refusal::TooManyBlocks(p) => p,
-            Refusal::EmptyBlock(p) => p,
-            Refusal::BlockColor(p) => p,
-            Refusal::LineTooShort(p) => p,
-            Refusal::CellCount(p) => p,
-            Refusal::EmptyMask(p) => p,
-            Refusal::ColumnColor(p) => p,
-            Refusal::SolvedColor(p) => p,
-            Refusal::LeftOver(p) => p,
-            Refusal::OutputTooShort(p) => p,
-            Refusal::ModelLength(p) => p,
-            Refusal::ModelByte(p) => p,
-            Refusal::FalseClause(p) => p,
-            Refusal::TwoColors(p) => p,
-            Refusal::OffGrid(p) => p,
-            Refusal::ColorTooLarge(p) => p,
-            Refusal::ProbeColor(p) => p,
-            Refusal::TooManyProbeWords(p) => p,
-            Refusal::DimacsLimit(p) => p,
-            Refusal::ClauseWords(p) => p,
-            Refusal::ProgramInput(p) => p,
+            Refusal::WordMissing(p)
+            | Refusal::Size(p)
+            | Refusal::TooManyBlocks(p)
+            | Refusal::EmptyBlock(p)
+            | Refusal::BlockColor(p)
+            | Refusal::LineTooShort(p)
+            | Refusal::CellCount(p)
+            | Refusal::EmptyMask(p)
+            | Refusal::ColumnColor(p)
+            | Refusal::SolvedColor(p)
+            | Refusal::LeftOver(p)
+            | Refusal::OutputTooShort(p)
+            | Refusal::ModelLength(p)
+            | Refusal::ModelByte(p)
+            | Refusal::FalseClause(p)
+            | Refusal::TwoColors(p)
+            | Refusal::OffGrid(p)
+            | Refusal::ColorTooLarge(p)
+            | Refusal::ProbeColor(p)
+            | Refusal::TooManyProbeWords(p)
+            | Refusal::DimacsLimit(p)
+            | Refusal::ClauseWords(p)
+            | Refusal::ProgramInput(p) => p,
         }
     }
 }
 
-#[derive(Clone, Copy)]
-pub enum Answer {
-    Accepted(usize),
-    Refused(Refusal),
-}
-
-impl Answer {
-    pub fn number(self) -> u32
-        ensures { result ≡ number (told self) }
-    {
-        match self {
-            Answer::Accepted(_) => 0,
-            Answer::Refused(why) => why.number(),
-        }
-    }
-
-    pub fn place(self) -> usize
-        ensures { result ≡ place (told self) }
-    {
-        match self {
-            Answer::Accepted(n) => n,
-            Answer::Refused(why) => why.place(),
-        }
+// What a caller in C is told of an answer: the number, and the place or how many were written.
+pub fn told(answer: Result<usize, Refusal>) -> (u32, usize)
+    ensures number { result.0 ≡ number (told answer) }
+    ensures place { result.1 ≡ place (told answer) }
+{
+    match answer {
+        Ok(n) => (0, n),
+        Err(why) => (why.number(), why.place()),
     }
 }
