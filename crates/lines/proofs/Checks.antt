@@ -8,13 +8,12 @@ use native.Mathlib.Decide.{ℕ_discrete}
 use lib.ListN.{length, get_or}
 use lib.Dec.{eqb, ltb}
 use borrow.Author.Tests.{eq-eqb, ne_eqb, lt-ltb, le-ltb, ltb-false}
+use Rattle.std.specs.Prelude.{Result, Ok, Err}
 use Rattle.lists.proofs.Tests.{neither}
 use Rattle.refusals.specs.Verdict.{Verdict, accepted, refused, passed, refuse, and_then}
-use Rattle.refusals.specs.Told.{told, checked}
+use Rattle.refusals.specs.Told.{refusal, told, checked}
 use Rattle.refusals.specs.declared.Refusal.{Refusal}
-use Rattle.refusals.specs.declared.Answer.{Answer}
-use Rattle.refusals.specs.declared.Answer.TheVariants.{Accepted, Refused}
-use Rattle.refusals.proofs.Answering.{handed_up, handed_on, accepted_passed, told_checks, told_found, refuse_accepted, then_accepted}
+use Rattle.refusals.proofs.Answering.{refusal_is, refused_is, accepted_passed, told_checks, told_found, refuse_accepted, then_accepted}
 use Rattle.refusals.proofs.Offending.{none_off, off_none}
 use Rattle.lines.specs.Clue.{Block, words, blocks, gap, min_space}
 use Rattle.lines.specs.Arrangement.{Proper, block_at}
@@ -43,9 +42,9 @@ module _ (n : ℕ) (clue : List ℕ) where
       many_refused h = rw (s, ne_eqb _ _ e, lt-ltb _ _ h)
 
       module _ (h : length clue / 2 ≤ 64) where
-        pub block_refused : {a : Answer} {why : Refusal} → a ≡ Refused why → checked a ≡ block_checks 0 clue → told a ≡ Space n clue
+        pub block_refused : {A : Type 0} {a : Result A Refusal} {why : Refusal} → a ≡ Err why → checked a ≡ block_checks 0 clue → refusal why ≡ Space n clue
         unfolding clue_checks
-        block_refused r b = rw (s, ne_eqb _ _ e, le-ltb _ _ h) (handed_up (handed_on b r _) r _)
+        block_refused r b = rw (s, ne_eqb _ _ e, le-ltb _ _ h, refused_is b r) (refusal_is _)
 
         module _ (b : passed ≡ block_checks 0 clue) {space : ℕ} (m : space ≡ min_space gap (blocks clue)) where
           pub short_refused : n < space → refused 6 0 ≡ Space n clue
@@ -66,7 +65,7 @@ pub record ClueOk (n : ℕ) (clue : List ℕ) (space : ℕ) : Type 0 where
   pub space_is : space ≡ min_space gap (blocks clue)
   pub fits : space ≤ n
 
-pub clue_ok : (n : ℕ) (clue : List ℕ) {a : Answer} {space : ℕ} → a ≡ Accepted space → told a ≡ Space n clue → ClueOk n clue space
+pub clue_ok : (n : ℕ) (clue : List ℕ) {a : Result ℕ Refusal} {space : ℕ} → a ≡ Ok space → told a ≡ Space n clue → ClueOk n clue space
 unfolding clue_checks
 clue_ok n clue {a} {space} r t =
     let e = accepted_passed (told_checks _ (clue_checks n clue) r t) r in

@@ -8,12 +8,14 @@ use native.Mathlib.Omega.{arith}
 use lib.ListN.{length}
 use borrow.Author.Tests.{lt-ltb, le-ltb}
 use Rattle.std.specs.Prelude.{Result, Ok, Err}
+use Rattle.std.specs.Result.{IsErrAnd}
+use Rattle.std.proofs.lemmas.Result.{err_from_is_err_and}
 use Rattle.lists.specs.Wrote.{Wrote}
 use Rattle.lists.proofs.Writing.{wrote_over}
 use Rattle.refusals.specs.declared.Refusal.{Refusal}
 use Rattle.refusals.specs.declared.Refusal.TheVariants.{WordMissing, Size, TooManyBlocks, EmptyBlock, BlockColor, LineTooShort, CellCount, EmptyMask, ColumnColor, SolvedColor, LeftOver, OutputTooShort, ModelLength, ModelByte, FalseClause, TwoColors, OffGrid, ColorTooLarge, ProbeColor, TooManyProbeWords, DimacsLimit, ClauseWords, ProgramInput}
 use Rattle.refusals.specs.Verdict.{Verdict, Checks, accepted, refused, passed, number, place, refuse, and_then}
-use Rattle.refusals.specs.Told.{refusal, told, checked}
+use Rattle.refusals.specs.Told.{refusal, told}
 use Rattle.refusals.specs.Outcome.{Answers, Outcome}
 
 pub refusal_is : {A : Type 0} (why : Refusal) → refusal {A = A} why ≡ refused (number (refusal why)) (place (refusal why))
@@ -42,74 +44,49 @@ refusal_is (ClauseWords p) = refl
 refusal_is (ProgramInput p) = refl
 
 -- a refusal is no acceptance
-refusal_not : {A : Type 0} {a : A} (why : Refusal) → refusal why ≡ accepted a → ⊥
+pub refusal_not : {A : Type 0} {a : A} (why : Refusal) → refusal why ≡ accepted a → ⊥
 refusal_not why e =
     let u = sym (refusal_is why) ∙ e in
     let z : ◌≡◌ {A = ℕ} 0 1 = cc in
     omega arith
 
-module _ {A : Type 0} {a : Result A Refusal} {why : Refusal} (r : a ≡ Err why) where
-  pub refused_told : told a ≡ refused (number (refusal why)) (place (refusal why))
-  refused_told = ap told r ∙ refusal_is why
+-- what `?` hands up is the refusal that it met
+pub handed : {A : Type 0} (r : Result A Refusal) {why : Refusal} → IsErrAnd r (λ e. e ≡ why) → r ≡ Err why
+handed r e = let p = err_from_is_err_and r e in p.1 ∙ ap Err p.2
 
-  pub refused_not : (n : A) → told a ≡ accepted n → ⊥
-  refused_not n e = refusal_not why (sym (ap told r) ∙ e)
+-- a refusal by checks: it goes up unchanged, with whatever would follow
+module _ (why : Refusal) {u : Checks} (e : refusal why ≡ u) where
+  pub refused_is : u ≡ refused (number (refusal why)) (place (refusal why))
+  refused_is = sym e ∙ refusal_is why
 
-  -- a refusal of a part is one of the whole
-  pub refused_again : {B : Type 0} → told {A = B} (Err why) ≡ refused (number (refusal why)) (place (refusal why))
-  refused_again = refusal_is why
+  pub handed_up : {B : Type 0} (v : Verdict B) → refusal {A = B} why ≡ and_then u v
+  handed_up v = refusal_is why ∙ rw refused_is
 
--- an answer to checks: a refusal goes up unchanged, as it is or with checks that follow
-module _ {A : Type 0} {a : Result A Refusal} {u : Checks} (e : checked a ≡ u) where
-  module _ {why : Refusal} (r : a ≡ Err why) where
-    pub refused_is : u ≡ refused (number (refusal why)) (place (refusal why))
-    refused_is = sym e ∙ ap checked r ∙ refusal_is why
+  pub refused_fails : passed ≡ u → ⊥
+  refused_fails p = refusal_not why (e ∙ sym p)
 
-    pub handed_up : {B : Type 0} (v : Verdict B) → told {A = B} (Err why) ≡ and_then u v
-    handed_up v = refusal_is why ∙ rw refused_is
-
-    pub refused_fails : passed ≡ u → ⊥
-    refused_fails p = refusal_not why (sym (ap checked r) ∙ e ∙ sym p)
-
-  -- and an acceptance goes on to what follows
-  module _ {n : A} (r : a ≡ Ok n) where
-    pub accepted_passed : passed ≡ u
-    accepted_passed = sym (ap checked r) ∙ e
-
-    pub goes_on : {B : Type 0} (v : Verdict B) → v ≡ and_then u v
-    goes_on v = rw (← accepted_passed)
-
--- an answer to checks that tells what was found
+-- checks that tell what was found
 module _ (n : ℕ) where
-  told_says : (a : Result ℕ Refusal) (u : Checks) → told a ≡ and_then u (accepted n) → checked a ≡ u
-  told_says (Ok m) (accepted x) e = refl
-  told_says (Ok m) (refused k p) e = let z : ◌≡◌ {A = ℕ} 0 1 = cc in absurd (omega arith)
-  told_says (Err why) (accepted x) e = absurd (refusal_not why e)
-  told_says (Err why) (refused k p) e =
+  pub refused_first : (why : Refusal) (u : Checks) → refusal why ≡ and_then u (accepted n) → refusal why ≡ u
+  refused_first why (accepted x) e = absurd (refusal_not why e)
+  refused_first why (refused k p) e =
       let f = sym (refusal_is why) ∙ e in
       let k-is : number (refusal why) ≡ k = cc in
       let p-is : place (refusal why) ≡ p = cc in
       refusal_is why ∙ rw (k-is, p-is)
 
-  pub told_checks : (u : Checks) {a b : Result ℕ Refusal} → a ≡ b → told a ≡ and_then u (accepted n) → checked a ≡ u
-  told_checks u {a} r e = told_says a u e
+  pub accepted_first : {m : ℕ} (u : Checks) → accepted m ≡ and_then u (accepted n) → (passed ≡ u) × (m ≡ n)
+  accepted_first {m} (accepted x) e = (refl, cc)
+  accepted_first {m} (refused k p) e = let z : ◌≡◌ {A = ℕ} 0 1 = cc in absurd (omega arith)
 
-  pub told_found : (u : Checks) {a : Result ℕ Refusal} {m : ℕ} → a ≡ Ok m → told a ≡ and_then u (accepted n) → m ≡ n
-  told_found (accepted x) {a} {m} r e = let f : accepted m ≡ accepted n = sym (ap told r) ∙ e in cc
-  told_found (refused k p) {a} {m} r e = let f : accepted m ≡ refused k p = sym (ap told r) ∙ e in let z : ◌≡◌ {A = ℕ} 0 1 = cc in absurd (omega arith)
+  -- which way a single test went
+  pub refused_test : (why : Refusal) (b : Bool) (k p : ℕ) → refusal why ≡ refuse b k p (accepted n) → (b ≡ true) × (refusal {A = ℕ} why ≡ refused k p)
+  refused_test why true k p e = (refl, e)
+  refused_test why false k p e = absurd (refusal_not why e)
 
--- where it is a refusal, what follows from checks that pass does not matter
-pub refused_so : {a : Result ℕ Refusal} {why : Refusal} → a ≡ Err why → (u : Checks) (n : ℕ) → told a ≡ and_then u (accepted n) → {X : Type 0} → (told a ≡ and_then u (accepted n)) × (passed ≡ u → X)
-refused_so r u n t = (t, λ p. absurd (refused_fails (told_checks n u r t) r p))
-
--- which way a single test went
-pub told_refused : (b : Bool) (k p n : ℕ) {a : Result ℕ Refusal} {why : Refusal} → a ≡ Err why → told a ≡ refuse b k p (accepted n) → (b ≡ true) × (told a ≡ refused k p)
-told_refused true k p n r e = (refl, e)
-told_refused false k p n r e = absurd (refused_not r n e)
-
-pub told_accepted : (b : Bool) (k p n : ℕ) {a : Result ℕ Refusal} {m : ℕ} → a ≡ Ok m → told a ≡ refuse b k p (accepted n) → (b ≡ false) × (m ≡ n)
-told_accepted true k p n r e = let u : accepted _ ≡ refused k p = ap told (sym r) ∙ e in let z : ◌≡◌ {A = ℕ} 0 1 = cc in absurd (omega arith)
-told_accepted false k p n {a} {m} r e = let u : accepted m ≡ accepted n = ap told (sym r) ∙ e in (refl, cc)
+  pub accepted_test : (b : Bool) (k p : ℕ) {m : ℕ} → accepted m ≡ refuse b k p (accepted n) → (b ≡ false) × (m ≡ n)
+  accepted_test true k p e = let z : ◌≡◌ {A = ℕ} 0 1 = cc in absurd (omega arith)
+  accepted_test false k p {m} e = (refl, cc)
 
 -- what an acceptance says of the checks before it
 module _ {A : Type 0} {a : A} where
@@ -126,10 +103,8 @@ module _ {A : Type 0} {a : A} where
   first_accepted (refused k p) v e = let z : ◌≡◌ {A = ℕ} 0 1 = cc in absurd (omega arith)
 
 module _ {A : Type 0} (ws out : List A) {checks : Checks} where
-  pub answers_refused : {B : Type 0} {a : Result B Refusal} {why : Refusal} → a ≡ Err why → checked a ≡ checks → Answers checks ws out (Err why) out
-  answers_refused {why = why} r e =
-      let f = refused_is e r in
-      record { answer_is = refusal_is why ∙ rw f; out_is = rw f }
+  pub answers_refused : (why : Refusal) → refusal why ≡ checks → Answers checks ws out (Err why) out
+  answers_refused why e = record { answer_is = refusal_is why ∙ rw (refused_is why e); out_is = rw (refused_is why e) }
 
   module _ (e : passed ≡ checks) where
     pub answers_short : {need : ℕ} → need ≡ length ws → length out < need → Answers checks ws out (Err (OutputTooShort need)) out
@@ -156,5 +131,5 @@ module _ {A : Type 0} (ws out : List A) {checks : Checks} where
   outcome_determined a b = (a.number_is ∙ sym b.number_is, a.place_is ∙ sym b.place_is, a.out_is ∙ sym b.out_is)
 
 -- refused by the first of two checks
-pub answers_first : {A : Type 0} (ws out : List A) {checks : Checks} (v : Checks) {why : Refusal} → refusal why ≡ checks → Answers (and_then checks v) ws out (Err why) out
-answers_first ws out v {why} e = answers_refused ws out {B = ℕ} {a = Err why} refl (refusal_is why ∙ rw (sym e ∙ refusal_is why))
+pub answers_first : {A : Type 0} (ws out : List A) {checks : Checks} (v : Checks) (why : Refusal) → refusal why ≡ checks → Answers (and_then checks v) ws out (Err why) out
+answers_first ws out v why e = answers_refused ws out why (handed_up why e v)

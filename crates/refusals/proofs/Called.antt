@@ -10,35 +10,42 @@ use Rattle.std.specs.Prelude.{Result, Ok, Err}
 use Rattle.lists.specs.Wrote.{Wrote, over}
 use Rattle.refusals.specs.declared.Refusal.{Refusal}
 use Rattle.refusals.specs.Verdict.{Checks, accepted, refused, passed, and_then}
-use Rattle.refusals.specs.Told.{told, checked}
+use Rattle.refusals.specs.Told.{refusal, told, checked}
 use Rattle.refusals.specs.Outcome.{Answers, verdict, fits, kept}
-use Rattle.refusals.proofs.Answering.{refused_told, refused_not, told_checks, refuse_accepted, then_accepted, first_accepted}
+use Rattle.refusals.proofs.Answering.{refusal_is, refusal_not, refused_first, accepted_first, refuse_accepted, then_accepted, first_accepted}
 
-module _ {A : Type 0} {checks : Checks} {ws out out' : List A} {a : Result ℕ Refusal} (given : Answers checks ws out a out') where
-  module _ {why : Refusal} (r : a ≡ Err why) where
+module _ {A : Type 0} {checks : Checks} {ws out out' : List A} where
+  module _ {why : Refusal} (given : Answers checks ws out (Err why) out') where
     -- with room it was one of the checks
-    pub refused_by : length ws ≤ length out → checked a ≡ checks
+    pub refused_by : length ws ≤ length out → refusal why ≡ checks
     refused_by room = go checks given.answer_is
       where
-        go : (v : Checks) → told a ≡ verdict v ws out → checked a ≡ v
-        go (accepted x) e = absurd (refused_not r (length ws) (e ∙ rw (le-ltb _ _ room)))
-        go (refused k p) e = told_checks 0 (refused k p) r e
+        go : (v : Checks) → refusal why ≡ verdict v ws out → refusal why ≡ v
+        go (accepted x) e = absurd (refusal_not {a = length ws} why (e ∙ rw (le-ltb _ _ room)))
+        go (refused k p) e = refused_first 0 why (refused k p) e
 
     -- and nothing was written
     pub refused_kept : out' ≡ out
-    refused_kept = given.out_is ∙ ap (λ v. kept v ws out) (sym given.answer_is ∙ refused_told r)
+    refused_kept = given.out_is ∙ ap (λ v. kept v ws out) (sym given.answer_is ∙ refusal_is why)
 
   -- as a check: 12 comes after the others
-  pub answers_checks : checked a ≡ and_then checks (fits (length out) (length ws))
-  answers_checks = let r : a ≡ a = refl in told_checks (length ws) (and_then checks (fits (length out) (length ws))) r (given.answer_is ∙ then_then checks)
+  pub answers_checks : {a : Result ℕ Refusal} → Answers checks ws out a out' → checked a ≡ and_then checks (fits (length out) (length ws))
+  answers_checks {a} given = go a (given.answer_is ∙ then_then checks)
     where
-      then_then : (u : Checks) → verdict u ws out ≡ and_then (and_then u (fits (length out) (length ws))) (accepted (length ws))
+      room : Checks
+      room = fits (length out) (length ws)
+
+      then_then : (u : Checks) → verdict u ws out ≡ and_then (and_then u room) (accepted (length ws))
       then_then (accepted x) = refl
       then_then (refused k p) = refl
 
-  module _ {used : ℕ} (r : a ≡ Ok used) where
+      go : (a : Result ℕ Refusal) → told a ≡ and_then (and_then checks room) (accepted (length ws)) → checked a ≡ and_then checks room
+      go (Ok n) e = (accepted_first (length ws) (and_then checks room) e).0
+      go (Err why) e = refused_first (length ws) why (and_then checks room) e
+
+  module _ {used : ℕ} (given : Answers checks ws out (Ok used) out') where
     e : accepted used ≡ verdict checks ws out
-    e = ap told (sym r) ∙ given.answer_is
+    e = given.answer_is
 
     pub accepted_checks : passed ≡ checks
     accepted_checks = first_accepted checks _ e

@@ -8,13 +8,12 @@ use native.Mathlib.Nat.{add-zero}
 use lib.ListN.{length, take, drop, get_or, length-append, length-drop}
 use lib.Seq.{drop_at, drop-drop, get_or-drop}
 use borrow.Author.Tests.{lt-ltb, le-ltb}
-use Rattle.std.specs.Prelude.{Result, Ok, Err}
 use Rattle.lists.proofs.Writing.{tail_is}
 use Rattle.refusals.specs.declared.Refusal.{Refusal}
 use Rattle.refusals.specs.Verdict.{Verdict, accepted, refused, passed}
-use Rattle.refusals.specs.Told.{told, checked}
+use Rattle.refusals.specs.Told.{refusal}
 use Rattle.refusals.specs.Walk.{Walk, got, outcome, walked, stop_if, stop, word, times, counted}
-use Rattle.refusals.proofs.Answering.{refusal_is, refused_told}
+use Rattle.refusals.proofs.Answering.{refusal_is}
 use Rattle.refusals.proofs.Walking.{Got, outcome_got, stopped, next_refused, next_keeps}
 use Rattle.refusals.proofs.Readers.{Reads, Reader}
 
@@ -70,21 +69,17 @@ module _ {B A : Type 0} where
       record { few = omega arith; within = omega arith; same = rw (e, add-zero) }
 
   -- the next one is read from the part that is left, `&part[i..]`
-  module _ {f : ℕ → List B → Walk B A} {n at l i : ℕ} {part : List B} (P : Passing f n at part l i)
-      (a : Result ℕ Refusal) (told_is : told a ≡ outcome (f (at + i) (take (length part - i) (drop i part)))) where
-    e : told a ≡ outcome (f (at + i) (drop i part))
-    e = rw (tail_is part i) at told_is
-
-    pub passing_stop : l < n → {why : Refusal} → a ≡ Err why → told a ≡ outcome (times n f at part)
+  module _ {f : ℕ → List B → Walk B A} {n at l i : ℕ} {part : List B} (P : Passing f n at part l i) where
+    pub passing_stop : l < n → (why : Refusal) → refusal why ≡ outcome (f (at + i) (take (length part - i) (drop i part))) → refusal why ≡ outcome (times n f at part)
     unfolding times
-    passing_stop h {why} r =
+    passing_stop h why e =
         let m : n - l ≡ suc (n - l - 1) = omega arith in
-        let t = refused_told r in
-        t ∙ sym (P.same ∙ rw m (next_refused (f (at + i) (drop i part)) _ (sym e ∙ t)))
+        let t = refusal_is why in
+        t ∙ sym (P.same ∙ rw m (next_refused (f (at + i) (drop i part)) _ (sym (rw (tail_is part i) at e) ∙ t)))
 
-    module _ {W : A → List B} {Fine : A → Type 0} (R : Reader f W Fine) {j : ℕ} (r : a ≡ Ok j) where
+    module _ {W : A → List B} {Fine : A → Type 0} (R : Reader f W Fine) {j : ℕ} (e : accepted j ≡ outcome (f (at + i) (take (length part - i) (drop i part)))) where
       read : Got (f (at + i) (drop i part)) j
-      read = outcome_got (f (at + i) (drop i part)) (sym (ap told r) ∙ e)
+      read = outcome_got (f (at + i) (drop i part)) (rw (tail_is part i) at e)
 
       went : (a : A) (us : List B) → f (at + i) (drop i part) ≡ got a j us → (at + i ≤ j) × (j ≤ at + length part) × (drop (j - at) part ≡ us)
       went a us g =
@@ -135,14 +130,14 @@ module _ {B A : Type 0} (d : B) (size : B → ℕ) (m : ℕ) (off : B → Bool) 
 
 -- ---- the whole, and what it leaves
 
-module _ {B A : Type 0} (k : ℕ) (w : Walk B A) {a : Result ℕ Refusal} (told_is : told a ≡ outcome w) where
-  pub walked_refused : {why : Refusal} → a ≡ Err why → checked a ≡ walked k w
+module _ {B A : Type 0} (k : ℕ) (w : Walk B A) where
+  pub walked_refused : (why : Refusal) → refusal why ≡ outcome w → refusal why ≡ walked k w
   unfolding walked
-  walked_refused {why} r = ap checked r ∙ refusal_is why ∙ rw (stopped w (sym told_is ∙ refused_told r))
+  walked_refused why e = refusal_is why ∙ rw (stopped w (sym e ∙ refusal_is why))
 
-  module _ {W : A → List B} {Fine : A → Type 0} {at : ℕ} {ws : List B} (only : (b : A) (j : ℕ) (us : List B) → w ≡ got b j us → Reads W Fine at ws b j us) {end : ℕ} (r : a ≡ Ok end) where
+  module _ {W : A → List B} {Fine : A → Type 0} {at : ℕ} {ws : List B} (only : (b : A) (j : ℕ) (us : List B) → w ≡ got b j us → Reads W Fine at ws b j us) {end : ℕ} (e : accepted end ≡ outcome w) where
     G : Got w end
-    G = outcome_got w (sym (ap told r) ∙ told_is)
+    G = outcome_got w e
 
     left : at + length ws ≡ end + length G.left
     left =
