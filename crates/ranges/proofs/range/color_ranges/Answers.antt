@@ -1,7 +1,7 @@
 use mathlib.Core.Path.{sym}
 use native.Mathlib.Omega.{arith}
 use Rattle.refusals.proofs.Answering.{handed, refused_first, answers_refused, answers_short, answers_wrote}
-use Rattle.lines.proofs.Checks.{ClueOk, clue_ok}
+use Rattle.lines.proofs.Checks.{clue_ok}
 use Rattle.ranges.proofs.Ranges.{ranges_words_length, ranges_wrote}
 use Rattle.ranges.proofs.range.color_ranges.Goals as goal
 
