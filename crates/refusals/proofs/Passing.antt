@@ -2,11 +2,11 @@
 use mathlib.Core.Path.{◌≡◌, refl, sym, ap, ◌∙◌}
 use mathlib.Core.Bool.{Bool, true, false}
 use mathlib.Core.List.{List, [], ◌∷◌}
-use Prim.Native.Nat.{ℕ, suc, ◌+◌, ◌-◌, ◌≤◌, ◌<◌}
+use Prim.Native.Nat.{ℕ, ◌+◌, ◌-◌, ◌≤◌, ◌<◌}
 use native.Mathlib.Omega.{arith}
 use native.Mathlib.Nat.{add-zero}
 use lib.ListN.{length, take, drop, get_or, length-append, length-drop}
-use lib.Seq.{drop_at, drop-drop, get_or-drop}
+use lib.Seq.{drop-drop, get_or-drop}
 use borrow.Author.Tests.{lt-ltb, le-ltb}
 use Rattle.lists.proofs.Writing.{tail_is}
 use Rattle.refusals.specs.declared.Refusal.{Refusal}
@@ -14,8 +14,8 @@ use Rattle.refusals.specs.Verdict.{Verdict, accepted, refused, passed}
 use Rattle.refusals.specs.Told.{refusal}
 use Rattle.refusals.specs.Walk.{Walk, got, outcome, walked, stop_if, stop, word, times, counted}
 use Rattle.refusals.proofs.Answering.{refusal_is}
-use Rattle.refusals.proofs.Walking.{Got, outcome_got, stopped, next_refused, next_keeps}
-use Rattle.refusals.proofs.Readers.{Reads, Reader}
+use Rattle.refusals.proofs.Walking.{Got, outcome_got, stopped}
+use Rattle.refusals.proofs.Readers.{Reads}
 
 -- ---- a word
 

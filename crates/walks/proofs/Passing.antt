@@ -1,5 +1,5 @@
 -- n of them are read one after another, as they walk.
-use mathlib.Core.Path.{◌≡◌, refl, sym, ap, ◌∙◌}
+use mathlib.Core.Path.{◌≡◌, sym, ap, ◌∙◌}
 use mathlib.Core.List.{List, ◌∷◌}
 use Prim.Native.Nat.{ℕ, suc, ◌+◌, ◌-◌, ◌≤◌, ◌<◌}
 use native.Mathlib.Omega.{arith}
@@ -10,7 +10,7 @@ use Rattle.lists.proofs.Writing.{tail_is}
 use Rattle.refusals.specs.declared.Refusal.{Refusal}
 use Rattle.refusals.specs.Verdict.{accepted}
 use Rattle.refusals.specs.Told.{refusal}
-use Rattle.refusals.specs.Walk.{Walk, got, outcome, times}
+use Rattle.refusals.specs.Walk.{Walk, outcome, times}
 use Rattle.refusals.proofs.Answering.{refusal_is}
 use Rattle.refusals.proofs.Walking.{Got, outcome_got, next_refused, next_keeps}
 use Rattle.walks.specs.Onward.{Behind, Onward}
