@@ -8,12 +8,11 @@ use native.Mathlib.Decide.{ℕ_discrete}
 use lib.ListN.{length, get_or}
 use lib.Dec.{eqb, ltb}
 use borrow.Author.Tests.{eq-eqb, ne_eqb, lt-ltb, le-ltb, ltb-false}
-use Rattle.std.specs.Prelude.{Result, Ok, Err}
 use Rattle.lists.proofs.Tests.{neither}
 use Rattle.refusals.specs.Verdict.{Verdict, accepted, refused, passed, refuse, and_then}
-use Rattle.refusals.specs.Told.{refusal, told, checked}
+use Rattle.refusals.specs.Told.{refusal}
 use Rattle.refusals.specs.declared.Refusal.{Refusal}
-use Rattle.refusals.proofs.Answering.{refusal_is, refused_is, accepted_passed, told_checks, told_found, refuse_accepted, then_accepted}
+use Rattle.refusals.proofs.Answering.{handed_up, accepted_first, refuse_accepted, then_accepted}
 use Rattle.refusals.proofs.Offending.{none_off, off_none}
 use Rattle.lines.specs.Clue.{Block, words, blocks, gap, min_space}
 use Rattle.lines.specs.Arrangement.{Proper, block_at}
@@ -42,9 +41,9 @@ module _ (n : ℕ) (clue : List ℕ) where
       many_refused h = rw (s, ne_eqb _ _ e, lt-ltb _ _ h)
 
       module _ (h : length clue / 2 ≤ 64) where
-        pub block_refused : {A : Type 0} {a : Result A Refusal} {why : Refusal} → a ≡ Err why → checked a ≡ block_checks 0 clue → refusal why ≡ Space n clue
+        pub block_refused : (why : Refusal) → refusal why ≡ block_checks 0 clue → refusal why ≡ Space n clue
         unfolding clue_checks
-        block_refused r b = rw (s, ne_eqb _ _ e, le-ltb _ _ h, refused_is b r) (refusal_is _)
+        block_refused why b = rw (s, ne_eqb _ _ e, le-ltb _ _ h) (handed_up why (handed_up why b _) _)
 
         module _ (b : passed ≡ block_checks 0 clue) {space : ℕ} (m : space ≡ min_space gap (blocks clue)) where
           pub short_refused : n < space → refused 6 0 ≡ Space n clue
@@ -65,21 +64,21 @@ pub record ClueOk (n : ℕ) (clue : List ℕ) (space : ℕ) : Type 0 where
   pub space_is : space ≡ min_space gap (blocks clue)
   pub fits : space ≤ n
 
-pub clue_ok : (n : ℕ) (clue : List ℕ) {a : Result ℕ Refusal} {space : ℕ} → a ≡ Ok space → told a ≡ Space n clue → ClueOk n clue space
+pub clue_ok : (n : ℕ) (clue : List ℕ) {space : ℕ} → accepted space ≡ Space n clue → ClueOk n clue space
 unfolding clue_checks
-clue_ok n clue {a} {space} r t =
-    let e = accepted_passed (told_checks _ (clue_checks n clue) r t) r in
+clue_ok n clue t =
+    let found = accepted_first _ (clue_checks n clue) t in
+    let e = found.0 in
     let a = refuse_accepted (off_size n) _ _ _ e in
     let b = refuse_accepted (eqb (length clue % 2) 1) _ _ _ a.1 in
     let c = refuse_accepted (ltb 64 (length clue / 2)) _ _ _ b.1 in
     let d = refuse_accepted (ltb n (min_space gap (blocks clue))) _ _ _ (then_accepted (block_checks 0 clue) _ c.1) in
-    let same = told_found _ (clue_checks n clue) r t in
     record {
       most = size_within n a.0;
       few = ltb-false _ _ c.0;
       passes = e;
-      space_is = same;
-      fits = omega (arith, ltb-false n (min_space gap (blocks clue)) d.0);
+      space_is = found.1;
+      fits = omega (arith, found.1, ltb-false n (min_space gap (blocks clue)) d.0);
     }
 
 -- a clue whose blocks have sizes and colours lacks nothing but room

@@ -3,55 +3,111 @@ use mathlib.Core.Path.{◌≡◌, refl, sym, ap, ◌∙◌}
 use mathlib.Core.Bool.{true, false}
 use mathlib.Core.List.{List, [], ◌∷◌}
 use Prim.Native.Nat.{ℕ, zero, suc, ◌+◌, ◌-◌, ◌*◌, ◌/◌, ◌≤◌, ◌<◌}
-use native.Mathlib.Nat.{not-suc-le-zero, le_of_suc-le-suc}
 use native.Mathlib.Omega.{arith}
-use lib.ListN.{length, drop, get_or, set, length-drop}
+use lib.Dec.{eqb}
+use lib.ListN.{length, drop, get_or, set, length-map, drop_of_length-le}
 use borrow.Author.Tests.{eq-eqb, ne_eqb}
+use Rattle.std.specs.Simd.{first_chunks}
+use Rattle.std.proofs.lemmas.List.{get_or-map}
 use Rattle.lists.specs.Wrote.{Wrote}
-use Rattle.lists.proofs.Dropping.{drop_two}
+use Rattle.lists.proofs.Dropping.{drop_one}
 use Rattle.lists.proofs.Writing.{Filling, fill_first, fill_as, fill_space, fill_store, fill_done, wrote_then, wrote_sets}
-use Rattle.refusals.specs.Verdict.{passed, refused}
+use Rattle.refusals.specs.Verdict.{Checks, passed, refused, refuse}
 use Rattle.lines.specs.Clue.{Block, words, blocks, gap, packed_from, packed, starts, last_end, min_space, positions}
 use Rattle.lines.specs.Arrangement.{block_at, at}
-use Rattle.lines.specs.Calls.{off_color, block_checks, starts_words}
+use Rattle.lines.specs.Calls.{off_color, pairs, block_checks, starts_words}
 use Rattle.lines.proofs.Packing.{starts_at}
 
--- a list of fewer than two words holds no block
-short : {A : Type 0} (f : List ℕ → A) (a : A) → f [] ≡ a → ((x : ℕ) → f (x ∷ []) ≡ a) → (l : List ℕ) (i : ℕ) → length l ≤ i + 1 → f (drop i l) ≡ a
-short {A} f a e₀ e₁ l i h = go (drop i l) (omega (arith, length-drop i l))
-  where
-    go : (l : List ℕ) → length l ≤ 1 → f l ≡ a
-    go [] h = e₀
-    go (x ∷ []) h = e₁ x
-    go (x ∷ y ∷ l) h = absurd (not-suc-le-zero (le_of_suc-le-suc h))
+-- ---- the blocks in pairs
 
-module _ (l : List ℕ) (i : ℕ) where
-  pub blocks_next : i + 1 < length l → blocks (drop i l) ≡ record { size = get_or l i 0; color = get_or l (i + 1) 0 } ∷ blocks (drop (i + 2) l)
-  unfolding blocks
-  blocks_next h = rw (drop_two 0 l i h)
+pub blocks_length : (l : List ℕ) → length (blocks l) ≡ length l / 2
+unfolding blocks
+blocks_length [] = refl
+blocks_length (x ∷ []) = refl
+blocks_length (x ∷ y ∷ l) = omega (arith, blocks_length l)
 
-  pub blocks_done : length l ≤ i + 1 → blocks (drop i l) ≡ []
-  unfolding blocks
-  blocks_done = short blocks [] refl (λ x. refl) l i
+chunked : (l : List ℕ) (k : ℕ) → k ≡ length (blocks l) → first_chunks 2 k l ≡ pairs (blocks l)
+unfolding blocks
+chunked [] zero e = refl
+chunked [] (suc k) e = absurd (omega (arith, e))
+chunked (x ∷ []) zero e = refl
+chunked (x ∷ []) (suc k) e = absurd (omega (arith, e))
+chunked (x ∷ y ∷ l) zero e = absurd (omega (arith, e))
+chunked (x ∷ y ∷ l) (suc k) e = ap (λ (t : List (List ℕ)). (x ∷ y ∷ []) ∷ t) (chunked l k (omega (arith, e)))
 
-  -- ---- the check of the words
+pub chunks_pairs : (l : List ℕ) → first_chunks 2 (length l / 2) l ≡ pairs (blocks l)
+chunks_pairs l = chunked l (length l / 2) (sym (blocks_length l))
 
-  module _ (h : i + 1 < length l) where
-    pub check_size : get_or l i 0 ≡ 0 → block_checks i (drop i l) ≡ refused 4 i
-    unfolding block_checks
-    check_size e = rw (drop_two 0 l i h, eq-eqb _ _ e)
+-- a size is one of the words
+block_size : (l : List ℕ) (b : ℕ) → b < length (blocks l) → (block_at (blocks l) b).size ≡ get_or l (2 * b) 0
+unfolding blocks
+block_size [] b h = absurd (omega arith)
+block_size (x ∷ []) b h = absurd (omega arith)
+block_size (x ∷ y ∷ l) zero h = refl
+block_size (x ∷ y ∷ l) (suc b) h = let e : 2 * suc b ≡ suc (suc (2 * b)) = omega arith in block_size l b (omega arith) ∙ rw e
 
-    pub check_color : (get_or l i 0 ≡ 0 → ⊥) → off_color (get_or l (i + 1) 0) ≡ true → block_checks i (drop i l) ≡ refused 5 (i + 1)
-    unfolding block_checks
-    check_color n e = rw (drop_two 0 l i h, ne_eqb _ _ n, e)
+-- pair b is block b
+module _ (bs : List Block) {ps : List (List ℕ)} (e : ps ≡ pairs bs) {b : ℕ} (h : b < length ps) where
+  pub pair_within : b < length bs
+  pair_within = omega (arith, h, ap length e, length-map bs (λ b. b.size ∷ b.color ∷ []))
 
-    pub check_next : (get_or l i 0 ≡ 0 → ⊥) → off_color (get_or l (i + 1) 0) ≡ false → block_checks i (drop i l) ≡ block_checks (i + 2) (drop (i + 2) l)
-    unfolding block_checks
-    check_next n e = rw (drop_two 0 l i h, ne_eqb _ _ n, e)
+  pair_is : get_or ps b [] ≡ (block_at bs b).size ∷ (block_at bs b).color ∷ []
+  pair_is = ap (λ ps. get_or ps b []) e ∙ get_or-map (λ (b : Block). b.size ∷ b.color ∷ []) bs b _ _ pair_within
 
-  pub check_done : length l ≤ i + 1 → block_checks i (drop i l) ≡ passed
-  unfolding block_checks
-  check_done = short (block_checks i) passed refl (λ x. refl) l i
+  pub pair_size : get_or (get_or ps b []) 0 0 ≡ (block_at bs b).size
+  pair_size = ap (λ p. get_or p 0 0) pair_is
+
+  pub pair_color : get_or (get_or ps b []) 1 0 ≡ (block_at bs b).color
+  pair_color = ap (λ p. get_or p 1 0) pair_is
+
+pub pairs_length : (l : List ℕ) {ps : List (List ℕ)} → ps ≡ pairs (blocks l) → length ps ≡ length l / 2
+pairs_length l e = ap length e ∙ length-map (blocks l) (λ b. b.size ∷ b.color ∷ []) ∙ blocks_length l
+
+pub pair_word : (l : List ℕ) {ps : List (List ℕ)} → ps ≡ pairs (blocks l) → {b : ℕ} → b < length ps → get_or (get_or ps b []) 0 0 ≡ get_or l (2 * b) 0
+pair_word l e {b} h = pair_size (blocks l) e h ∙ block_size l b (pair_within (blocks l) e h)
+
+-- all of them have been passed
+pub pairs_done : (bs : List Block) {ps : List (List ℕ)} → ps ≡ pairs bs → {b : ℕ} → length ps ≤ b → drop b bs ≡ []
+pairs_done bs e h = drop_of_length-le bs (omega (arith, h, ap length e, length-map bs (λ b. b.size ∷ b.color ∷ [])))
+
+-- ---- the check of the words
+
+-- 4 and 5 by block, from word i on
+of_blocks : ℕ → List Block → Checks
+of_blocks i [] = passed
+of_blocks i (b ∷ bs) = refuse (eqb b.size 0) 4 i (refuse (off_color b.color) 5 (i + 1) (of_blocks (i + 2) bs))
+
+by_blocks : (i : ℕ) (l : List ℕ) → block_checks i l ≡ of_blocks i (blocks l)
+unfolding block_checks blocks of_blocks
+by_blocks i [] = refl
+by_blocks i (x ∷ []) = refl
+by_blocks i (x ∷ y ∷ l) = rw (by_blocks (i + 2) l)
+
+-- a loop that has passed b blocks
+pub record Checking (clue : List ℕ) (b : ℕ) : Type 0 where
+  same : block_checks 0 clue ≡ of_blocks (2 * b) (drop b (blocks clue))
+
+pub checking_first : (clue : List ℕ) → Checking clue 0
+checking_first clue = record { same = by_blocks 0 clue }
+
+module _ {clue : List ℕ} {b : ℕ} (C : Checking clue b) where
+  module _ (h : b < length (blocks clue)) {size color : ℕ} (s : size ≡ (block_at (blocks clue) b).size) (c : color ≡ (block_at (blocks clue) b).color) where
+    next : block_checks 0 clue ≡ refuse (eqb size 0) 4 (2 * b) (refuse (off_color color) 5 (2 * b + 1) (of_blocks (2 * b + 2) (drop (b + 1) (blocks clue))))
+    unfolding of_blocks
+    next = C.same ∙ rw (drop_one (record { size = 0; color = 0 }) (blocks clue) b h, s, c)
+
+    pub check_size : size ≡ 0 → refused 4 (2 * b) ≡ block_checks 0 clue
+    check_size e = sym (next ∙ rw (eq-eqb _ _ e))
+
+    pub check_color : (size ≡ 0 → ⊥) → off_color color ≡ true → refused 5 (2 * b + 1) ≡ block_checks 0 clue
+    check_color n e = sym (next ∙ rw (ne_eqb _ _ n, e))
+
+    pub check_next : (size ≡ 0 → ⊥) → off_color color ≡ false → Checking clue (b + 1)
+    check_next n e = let two : 2 * (b + 1) ≡ 2 * b + 2 = omega arith in record { same = next ∙ rw (ne_eqb _ _ n, e, two) }
+
+  pub check_done : drop b (blocks clue) ≡ [] → passed ≡ block_checks 0 clue
+  unfolding of_blocks
+  check_done e = sym (C.same ∙ rw e)
 
 -- ---- the packed runs
 
@@ -61,77 +117,79 @@ unfolding packed_from last_end
 end_from g at c [] = omega arith
 end_from g at c (b ∷ bs) = omega (arith, end_from g (at + g c b.color + b.size) b.color bs)
 
--- a loop that has passed i words of a clue: the last of their blocks ended at `at` and has the colour c
-pub record Walk (clue : List ℕ) (at c i : ℕ) : Type 0 where
-  pub within : i ≤ length clue
-  pub ends : min_space gap (blocks clue) ≡ last_end at (packed_from gap at c (blocks (drop i clue)))
+-- a loop that has passed b blocks of a clue: the last of them ended at `at` and has the colour c
+pub record Walk (clue : List ℕ) (at c b : ℕ) : Type 0 where
+  pub ends : min_space gap (blocks clue) ≡ last_end at (packed_from gap at c (drop b (blocks clue)))
 
 pub walk_first : (clue : List ℕ) → Walk clue 0 0 0
 unfolding min_space packed
-walk_first clue = record { within = omega arith; ends = refl }
+walk_first clue = record { ends = refl }
 
-module _ {clue : List ℕ} {at c i : ℕ} (W : Walk clue at c i) where
+module _ {clue : List ℕ} {at c b : ℕ} (W : Walk clue at c b) where
   -- the end of the last block is not before it
   pub walk_low : at ≤ min_space gap (blocks clue)
-  walk_low = omega (arith, W.ends, end_from gap at c (blocks (drop i clue)))
+  walk_low = omega (arith, W.ends, end_from gap at c (drop b (blocks clue)))
 
   -- at the end it is the least space
-  pub walk_done : length clue ≤ i + 1 → at ≡ min_space gap (blocks clue)
+  pub walk_done : drop b (blocks clue) ≡ [] → at ≡ min_space gap (blocks clue)
   unfolding packed_from last_end
-  walk_done h = sym (W.ends ∙ rw (blocks_done clue i h))
+  walk_done e = sym (W.ends ∙ rw e)
 
-  module _ (h : i + 1 < length clue) where
-    pub walk_run : packed_from gap at c (blocks (drop i clue))
-        ≡ record { start = at + gap c (get_or clue (i + 1) 0); size = get_or clue i 0; color = get_or clue (i + 1) 0 }
-        ∷ packed_from gap (at + gap c (get_or clue (i + 1) 0) + get_or clue i 0) (get_or clue (i + 1) 0) (blocks (drop (i + 2) clue))
+  module _ (h : b < length (blocks clue)) {size color : ℕ} (s : size ≡ (block_at (blocks clue) b).size) (k : color ≡ (block_at (blocks clue) b).color) where
+    pub walk_run : packed_from gap at c (drop b (blocks clue))
+        ≡ record { start = at + gap c color; size = size; color = color } ∷ packed_from gap (at + gap c color + size) color (drop (b + 1) (blocks clue))
     unfolding packed_from
-    walk_run = rw (blocks_next clue i h)
+    walk_run = rw (drop_one (record { size = 0; color = 0 }) (blocks clue) b h, s, k)
 
-    pub walk_next : Walk clue (at + gap c (get_or clue (i + 1) 0) + get_or clue i 0) (get_or clue (i + 1) 0) (i + 2)
+    pub walk_next : Walk clue (at + gap c color + size) color (b + 1)
     unfolding last_end
-    walk_next = record { within = omega arith; ends = W.ends ∙ rw walk_run }
+    walk_next = record { ends = W.ends ∙ rw walk_run }
 
-  pub walk_end : length clue ≤ i + 1 → packed_from gap at c (blocks (drop i clue)) ≡ []
+  pub walk_end : drop b (blocks clue) ≡ [] → packed_from gap at c (drop b (blocks clue)) ≡ []
   unfolding packed_from
-  walk_end h = rw (blocks_done clue i h)
+  walk_end e = rw e
 
 -- as many starts as blocks
-pub starts_count : (g : ℕ → ℕ → ℕ) (at c : ℕ) (l : List ℕ) → length (starts (packed_from g at c (blocks l))) ≡ length l / 2
-unfolding packed_from blocks
+pub starts_count : (g : ℕ → ℕ → ℕ) (at c : ℕ) (bs : List Block) → length (starts (packed_from g at c bs)) ≡ length bs
+unfolding packed_from
 starts_count g at c [] = refl
-starts_count g at c (x ∷ []) = refl
-starts_count g at c (x ∷ y ∷ l) = omega (arith, starts_count g (at + g c y + x) y l)
+starts_count g at c (b ∷ bs) = ap (λ (n : ℕ). suc n) (starts_count g (at + g c b.color + b.size) b.color bs)
 
 -- ---- the loop that writes the starts
 
-pub record Starting (clue out₀ : List ℕ) (from : ℕ) (out : List ℕ) (to at c i : ℕ) : Type 0 where
-  pub walk : Walk clue at c i
-  pub fill : Filling (starts (packed gap (blocks clue))) out₀ from (starts (packed_from gap at c (blocks (drop i clue)))) out to
+pub record Starting (clue out₀ : List ℕ) (from : ℕ) (out : List ℕ) (at c b : ℕ) : Type 0 where
+  pub walk : Walk clue at c b
+  pub fill : Filling (starts (packed gap (blocks clue))) out₀ from (starts (packed_from gap at c (drop b (blocks clue)))) out (from + b)
 
-pub starting_first : (clue out : List ℕ) (from : ℕ) → from + length clue / 2 ≤ length out → Starting clue out from out from 0 0 0
+pub starting_first : (clue out : List ℕ) (from : ℕ) → from + length clue / 2 ≤ length out → Starting clue out from out 0 0 0
 unfolding packed
-starting_first clue out from h = record { walk = walk_first clue; fill = fill_first _ out from (omega (arith, starts_count gap 0 0 clue)) refl }
+starting_first clue out from h = record {
+  walk = walk_first clue;
+  fill = let z : from + 0 ≡ from = omega arith in rw z (fill_first _ out from (omega (arith, starts_count gap 0 0 (blocks clue), blocks_length clue)) refl);
+}
 
-module _ {clue out₀ out : List ℕ} {from to at c i : ℕ} (S : Starting clue out₀ from out to at c i) where
-  module _ (h : i + 1 < length clue) {g : ℕ} (e : g ≡ gap c (get_or clue (i + 1) 0)) where
-    step : Filling (starts (packed gap (blocks clue))) out₀ from
-        ((at + g) ∷ starts (packed_from gap (at + g + get_or clue i 0) (get_or clue (i + 1) 0) (blocks (drop (i + 2) clue)))) out to
-    step = fill_as S.fill (ap starts (walk_run S.walk h) ∙ rw e)
+module _ {clue out₀ out : List ℕ} {from at c b : ℕ} (S : Starting clue out₀ from out at c b) where
+  module _ (h : b < length (blocks clue)) {size color g : ℕ} (s : size ≡ (block_at (blocks clue) b).size) (k : color ≡ (block_at (blocks clue) b).color) (e : g ≡ gap c color) where
+    step : Filling (starts (packed gap (blocks clue))) out₀ from ((at + g) ∷ starts (packed_from gap (at + g + size) color (drop (b + 1) (blocks clue)))) out (from + b)
+    step = fill_as S.fill (ap starts (walk_run S.walk h s k) ∙ rw e)
 
-    pub starting_room : to < length out
+    pub starting_room : from + b < length out
     starting_room = fill_space step
 
-    pub starting_next : Starting clue out₀ from (set out to (at + g)) (to + 1) (at + g + get_or clue i 0) (get_or clue (i + 1) 0) (i + 2)
-    starting_next = record { walk = rw e (walk_next S.walk h); fill = fill_store step }
+    pub starting_low : at + g + size ≤ min_space gap (blocks clue)
+    starting_low = rw e (walk_low (walk_next S.walk h s k))
 
-  pub starting_done : length clue ≤ i + 1 → Wrote (starts (packed gap (blocks clue))) out₀ from out to
-  starting_done h = fill_done S.fill (ap starts (walk_end S.walk h))
+    pub starting_next : Starting clue out₀ from (set out (from + b) (at + g)) (at + g + size) color (b + 1)
+    starting_next = record { walk = rw e (walk_next S.walk h s k); fill = let n : from + (b + 1) ≡ from + b + 1 = omega arith in rw n (fill_store step) }
+
+  pub starting_done : drop b (blocks clue) ≡ [] → b ≡ length clue / 2 → Wrote (starts (packed gap (blocks clue))) out₀ from out (from + length clue / 2)
+  starting_done h e = rw (← e) (fill_done S.fill (ap starts (walk_end S.walk h)))
 
 -- ---- what the starts call writes
 
 pub starts_words_length : (n : ℕ) (clue : List ℕ) → length (starts_words n clue) ≡ 2 + length clue / 2
 unfolding starts_words packed
-starts_words_length n clue = omega (arith, starts_count gap 0 0 clue)
+starts_words_length n clue = omega (arith, starts_count gap 0 0 (blocks clue), blocks_length clue)
 
 -- the first two words are stored, and then the starts are written
 pub starts_wrote : (n : ℕ) (clue out : List ℕ) {p space used : ℕ} {out' : List ℕ} → p ≡ n - space + 1 → space ≡ min_space gap (blocks clue) → 2 ≤ length out

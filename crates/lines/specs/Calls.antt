@@ -1,8 +1,8 @@
 -- Document 01: what the calls `read_line`, `starts` and `color_ranges` refuse, in its order, and what they write.
-use Rattle.std.specs.Prelude.{Bool, ◌||◌, List, [], ◌∷◌, ℕ, ◌+◌, ◌-◌, ◌/◌, ◌%◌, length, eqb, ltb}
+use Rattle.std.specs.Prelude.{Bool, ◌||◌, List, [], ◌∷◌, map, ℕ, ◌+◌, ◌-◌, ◌/◌, ◌%◌, length, eqb, ltb}
 use Rattle.lists.specs.Each.{each}
 use Rattle.refusals.specs.Verdict.{Checks, passed, refuse, and_then, first_off}
-use Rattle.lines.specs.Clue.{words, blocks, gap, packed, starts, min_space, positions, of_color, range}
+use Rattle.lines.specs.Clue.{Block, words, blocks, gap, packed, starts, min_space, positions, of_color, range}
 use Rattle.lines.specs.Line.{runs}
 
 -- a width, height or line length that is 0 or over 64
@@ -12,6 +12,10 @@ off_size n = eqb n 0 || ltb 64 n
 -- a colour that is not 1 to 31
 abbrev pub off_color : ℕ → Bool
 off_color c = eqb c 0 || ltb 31 c
+
+-- blocks as they stand in a clue's words
+abbrev pub pairs : List Block → List (List ℕ)
+pairs bs = map (λ b. b.size ∷ b.color ∷ []) bs
 
 -- 4 and 5 by word, from word i on
 unfoldable pub block_checks : ℕ → List ℕ → Checks

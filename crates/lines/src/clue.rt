@@ -5,25 +5,30 @@ ghost use Rattle.refusals.specs.Told.{checked, told};
 ghost use Rattle.refusals.specs.Verdict.{accepted, and_then};
 ghost use Rattle.refusals.specs.Outcome.{Answers};
 ghost use Rattle.lines.specs.Clue as Clue;
-ghost use Rattle.lines.specs.Calls.{block_checks, clue_checks, starts_words};
+ghost use Rattle.lines.specs.Calls.{block_checks, clue_checks, pairs, starts_words};
 
 use crate::gap::gap;
 use crate::limits::{off_color, off_size};
 use refusals::Refusal;
 
+// A clue's blocks, each its size and its colour.
+pub fn blocks(clue: &[u32]) -> &[[u32; 2]]
+    ensures { result.now ≡ pairs (Clue.blocks clue.now) }
+{
+    clue.as_chunks::<2>().0
+}
+
 // The first word that is no size or no colour.
 fn check_blocks(clue: &[u32]) -> Result<(), Refusal>
     ensures { checked result ≡ block_checks 0 clue.now }
 {
-    let mut i = 0;
-    while i + 1 < clue.len() {
-        if clue[i] == 0 {
-            return Err(Refusal::EmptyBlock(i));
+    for (b, &[size, color]) in blocks(clue).iter().enumerate() {
+        if size == 0 {
+            return Err(Refusal::EmptyBlock(2 * b));
         }
-        if off_color(clue[i + 1]) {
-            return Err(Refusal::BlockColor(i + 1));
+        if off_color(color) {
+            return Err(Refusal::BlockColor(2 * b + 1));
         }
-        i += 2;
     }
     Ok(())
 }
@@ -35,12 +40,9 @@ fn min_space(clue: &[u32]) -> u64
 {
     let mut at: u64 = 0;
     let mut color: u32 = 0;
-    let mut i = 0;
-    while i + 1 < clue.len() {
-        let next = clue[i + 1];
-        at = at + gap(color, next) as u64 + clue[i] as u64;
+    for &[size, next] in blocks(clue) {
+        at = at + gap(color, next) as u64 + size as u64;
         color = next;
-        i += 2;
     }
     at
 }
@@ -80,20 +82,15 @@ fn block_starts(clue: &[u32], out: &mut [u32], from: usize) -> usize
     requires clue_in_bounds { from + length clue.now / 2 ≤ length out.old }
     ensures { Wrote (Clue.starts (Clue.packed Clue.gap (Clue.blocks clue.now))) out.old from out.new result }
 {
-    let mut to = from;
     let mut at: u32 = 0;
     let mut color: u32 = 0;
-    let mut i = 0;
-    while i + 1 < clue.len() {
-        let next = clue[i + 1];
+    for (b, &[size, next]) in blocks(clue).iter().enumerate() {
         let start = at + gap(color, next);
-        out[to] = start;
-        to += 1;
-        at = start + clue[i];
+        out[from + b] = start;
+        at = start + size;
         color = next;
-        i += 2;
     }
-    to
+    from + clue.len() / 2
 }
 
 // The positions, the least space, then the starts.

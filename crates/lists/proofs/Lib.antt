@@ -1,3 +1,4 @@
+pub mod Chunks
 pub mod Dropping
 pub mod Eaches
 pub mod Emitting

@@ -1,31 +1,29 @@
 use native.Mathlib.Omega.{arith}
-use Rattle.lists.proofs.Writing.{fill_kept}
-use Rattle.lines.proofs.ClueWords.{starting_first, starting_room, starting_next, starting_done, walk_low}
+use Rattle.lines.proofs.ClueWords.{pair_within, pair_size, pair_color, pairs_done, pairs_length, starting_first, starting_low, starting_room, starting_next, starting_done}
 use Rattle.lines.proofs.clue.block_starts.Goals as goal
 
-pub loop-i-init : goal.loop-i-init
-loop-i-init c = starting_first _ _ _ c.requires.clue_in_bounds
+pub loop-b-init : goal.loop-b-init
+loop-b-init c = starting_first _ _ _ c.requires.clue_in_bounds
 
 pub overflow_add-start : goal.overflow_add-start
-overflow_add-start c = omega (arith, walk_low (starting_next c.loop-i.invariant c.loop-i-test.true c.gap.ensures.0).walk)
+overflow_add-start c =
+    let p = c.blocks-size-items.ensures in
+    omega (arith, c.requires.clue_bound, starting_low c.loop-b.invariant (pair_within _ p c.loop-b-test.true) (pair_size _ p c.loop-b-test.true) (pair_color _ p c.loop-b-test.true) c.gap.ensures.0)
 
-pub offset_bounds-out-to : goal.offset_bounds-out-to
-offset_bounds-out-to c = omega (arith, starting_room c.loop-i.invariant c.loop-i-test.true c.gap.ensures.0, fill_kept c.loop-i.invariant.fill)
-
-pub bounds-out-to : goal.bounds-out-to
-bounds-out-to c = starting_room c.loop-i.invariant c.loop-i-test.true c.gap.ensures.0
-
-pub overflow_add-to : goal.overflow_add-to
-overflow_add-to c = omega (arith, starting_room c.loop-i.invariant c.loop-i-test.true c.gap.ensures.0, fill_kept c.loop-i.invariant.fill)
+pub bounds-out-from : goal.bounds-out-from
+bounds-out-from c =
+    let p = c.blocks-size-items.ensures in
+    starting_room c.loop-b.invariant (pair_within _ p c.loop-b-test.true) (pair_size _ p c.loop-b-test.true) (pair_color _ p c.loop-b-test.true) c.gap.ensures.0
 
 pub overflow_add-at : goal.overflow_add-at
-overflow_add-at c = omega (arith, walk_low (starting_next c.loop-i.invariant c.loop-i-test.true c.gap.ensures.0).walk)
+overflow_add-at c =
+    let p = c.blocks-size-items.ensures in
+    omega (arith, c.requires.clue_bound, starting_low c.loop-b.invariant (pair_within _ p c.loop-b-test.true) (pair_size _ p c.loop-b-test.true) (pair_color _ p c.loop-b-test.true) c.gap.ensures.0)
 
-pub loop-i-preserved : goal.loop-i-preserved
-loop-i-preserved c = starting_next c.loop-i.invariant c.loop-i-test.true c.gap.ensures.0
-
-pub shape_of-out : goal.shape_of-out
-shape_of-out c = fill_kept c.loop-i.invariant.fill
+pub loop-b-preserved : goal.loop-b-preserved
+loop-b-preserved c =
+    let p = c.blocks-size-items.ensures in
+    starting_next c.loop-b.invariant (pair_within _ p c.loop-b-test.true) (pair_size _ p c.loop-b-test.true) (pair_color _ p c.loop-b-test.true) c.gap.ensures.0
 
 pub returns : goal.returns
-returns c = starting_done c.loop-i.invariant c.loop-i-test.false
+returns c = starting_done c.loop-b.invariant (pairs_done _ c.blocks-size-items.ensures c.loop-b-test.false) (omega (arith, c.loop-b.auto.b-end, c.loop-b-test.false, pairs_length c.args.clue.now c.blocks-size-items.ensures))

@@ -1,6 +1,5 @@
-use Rattle.std.proofs.lemmas.Result.{err_from_is_err_and}
-use Rattle.refusals.specs.Told.{told, checked}
-use mathlib.Core.Path.{sym, ◌∙◌, ap}
+use Rattle.refusals.proofs.Answering.{handed}
+use mathlib.Core.Path.{sym, ◌∙◌}
 use Rattle.lines.proofs.Checks.{size_refused, odd_refused, many_refused, block_refused, short_refused, clue_accepted}
 use Rattle.lines.proofs.clue.check_clue.Goals as goal
 
@@ -15,11 +14,11 @@ returns-then-clue-gt64 c = many_refused _ _ (sym c.off_size.ensures ∙ c.if-off
 
 pub returns-in_err-check_blocks : goal.returns-in_err-check_blocks
 returns-in_err-check_blocks c =
-    let p = err_from_is_err_and c.from_residual.result c.from_residual.ensures.1 in
-    ap told p.1 ∙ ?
+    rw (handed c.from_residual.result c.from_residual.ensures.1)
+    (block_refused _ _ (sym c.off_size.ensures ∙ c.if-off_size.false) c.if-clue-eq1.false c.if-clue-gt64.false _ c.in_err-check_blocks.ensures)
 
 pub returns-then-length-space : goal.returns-then-length-space
-returns-then-length-space c = short_refused _ _ (sym c.off_size.ensures ∙ c.if-off_size.false) c.if-clue-eq1.false c.if-clue-gt64.false (sym (ap checked c.in_ok-check_blocks.was) ∙ c.check_blocks.ensures) c.min_space-space.ensures c.if-length-space.true
+returns-then-length-space c = short_refused _ _ (sym c.off_size.ensures ∙ c.if-off_size.false) c.if-clue-eq1.false c.if-clue-gt64.false c.in_ok-check_blocks.ensures c.min_space-space.ensures c.if-length-space.true
 
 pub returns : goal.returns
-returns c = clue_accepted _ _ (sym c.off_size.ensures ∙ c.if-off_size.false) c.if-clue-eq1.false c.if-clue-gt64.false (sym (ap checked c.in_ok-check_blocks.was) ∙ c.check_blocks.ensures) c.min_space-space.ensures c.if-length-space.false
+returns c = clue_accepted _ _ (sym c.off_size.ensures ∙ c.if-off_size.false) c.if-clue-eq1.false c.if-clue-gt64.false c.in_ok-check_blocks.ensures c.min_space-space.ensures c.if-length-space.false

@@ -1,19 +1,28 @@
+use Prim.Native.Nat.{◌*◌}
 use native.Mathlib.Omega.{arith}
-use Rattle.lines.proofs.ClueWords.{walk_first, walk_next, walk_done}
+use Rattle.lines.proofs.ClueWords.{pair_within, pair_size, pair_color, pairs_done, pairs_length, pair_word, walk_first, walk_next, walk_done}
 use borrow.Author.Rules.{rules}
 use Rattle.lines.proofs.clue.min_space.Goals as goal
 
-pub loop-i-init : goal.loop-i-init
-loop-i-init c = (walk_first _, search rules)
+pub loop-size-init : goal.loop-size-init
+loop-size-init c = (walk_first _, search rules)
 
-pub overflow_cast-at-in-loop-i : goal.overflow_cast-at-in-loop-i
-overflow_cast-at-in-loop-i c = omega (arith, c.type_inv.clue c.loop-i.i)
+pub overflow_add-at : goal.overflow_add-at
+overflow_add-at c =
+    let p = c.blocks-size-items.ensures in
+    omega (arith, c.loop-size.invariant.1, c.gap.ensures.1, c.requires, pairs_length c.args.clue.now p, c.loop-size-test.true)
 
-pub overflow_add-at-in-loop-i : goal.overflow_add-at-in-loop-i
-overflow_add-at-in-loop-i c = omega (arith, c.type_inv.clue c.loop-i.i)
+pub overflow_add-at-in-loop-size : goal.overflow_add-at-in-loop-size
+overflow_add-at-in-loop-size c =
+    let p = c.blocks-size-items.ensures in
+    omega (arith, c.loop-size.invariant.1, c.gap.ensures.1, c.requires, pairs_length c.args.clue.now p, c.loop-size-test.true, pair_word c.args.clue.now p c.loop-size-test.true, c.type_inv.clue (2 * c.loop-size.size-index))
 
-pub loop-i-preserved : goal.loop-i-preserved
-loop-i-preserved c = (rw c.gap.ensures.0 (walk_next c.loop-i.invariant.0 c.loop-i-test.true), omega (arith, c.type_inv.clue c.loop-i.i))
+pub loop-size-preserved : goal.loop-size-preserved
+loop-size-preserved c =
+    let p = c.blocks-size-items.ensures in (
+      rw c.gap.ensures.0 (walk_next c.loop-size.invariant.0 (pair_within _ p c.loop-size-test.true) (pair_size _ p c.loop-size-test.true) (pair_color _ p c.loop-size-test.true)),
+      omega (arith, c.loop-size.invariant.1, c.gap.ensures.1, pair_word c.args.clue.now p c.loop-size-test.true, c.type_inv.clue (2 * c.loop-size.size-index)),
+    )
 
 pub returns : goal.returns
-returns c = walk_done c.loop-i.invariant.0 c.loop-i-test.false
+returns c = walk_done c.loop-size.invariant.0 (pairs_done _ c.blocks-size-items.ensures c.loop-size-test.false)

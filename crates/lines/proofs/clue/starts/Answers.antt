@@ -1,8 +1,8 @@
 use mathlib.Core.Path.{sym, ◌∙◌}
 use native.Mathlib.Omega.{arith}
 use lib.ListN.{length-set}
-use Rattle.refusals.proofs.Answering.{told_checks, answers_refused, answers_short, answers_wrote}
-use Rattle.lines.proofs.Checks.{ClueOk, clue_ok}
+use Rattle.refusals.proofs.Answering.{handed, refused_first, answers_refused, answers_short, answers_wrote}
+use Rattle.lines.proofs.Checks.{clue_ok}
 use Rattle.lines.proofs.ClueWords.{starts_words_length, starts_wrote}
 use borrow.Author.Rules.{rules}
 use Rattle.lines.proofs.clue.starts.Goals as goal
@@ -10,26 +10,26 @@ use Rattle.lines.proofs.clue.starts.Goals as goal
 -- `ok` in these answers: the clue is accepted
 
 pub returns-in_err-space : goal.returns-in_err-space
-returns-in_err-space c = ?
+returns-in_err-space c = rw (handed c.from_residual.result c.from_residual.ensures.1) (answers_refused _ _ _ (refused_first _ _ _ c.in_err-space.ensures))
 
 pub returns-then-out-need : goal.returns-then-out-need
 returns-then-out-need c =
-    let ok = clue_ok _ _ c.in_ok-space.was c.check_clue.ensures in
+    let ok = clue_ok _ _ c.in_ok-space.ensures in
     answers_short _ _ ok.passes (sym (starts_words_length _ _)) c.if-out-need.true
 
 pub positions_number-requires : goal.positions_number-requires
 positions_number-requires c =
-    let ok = clue_ok _ _ c.in_ok-space.was c.check_clue.ensures in
+    let ok = clue_ok _ _ c.in_ok-space.ensures in
     (ok.fits, ok.most)
 
 pub overflow_cast-out : goal.overflow_cast-out
 overflow_cast-out c =
-    let ok = clue_ok _ _ c.in_ok-space.was c.check_clue.ensures in
+    let ok = clue_ok _ _ c.in_ok-space.ensures in
     omega (arith, ok, c.positions_number.ensures)
 
 pub overflow_cast-out-2 : goal.overflow_cast-out-2
 overflow_cast-out-2 c =
-    let ok = clue_ok _ _ c.in_ok-space.was c.check_clue.ensures in
+    let ok = clue_ok _ _ c.in_ok-space.ensures in
     omega (arith, ok)
 
 pub bounds-out-1 : goal.bounds-out-1
@@ -37,7 +37,7 @@ bounds-out-1 c = simp length-set (search rules)
 
 pub block_starts-requires-clause-clue_bound : goal.block_starts-requires-clause-clue_bound
 block_starts-requires-clause-clue_bound c =
-    let ok = clue_ok _ _ c.in_ok-space.was c.check_clue.ensures in
+    let ok = clue_ok _ _ c.in_ok-space.ensures in
     omega (arith, ok)
 
 pub block_starts-requires-clause-clue_in_bounds : goal.block_starts-requires-clause-clue_in_bounds
@@ -48,6 +48,6 @@ shape_of-out c = c.block_starts.auto.out ∙ simp length-set
 
 pub returns : goal.returns
 returns c =
-    let ok = clue_ok _ _ c.in_ok-space.was c.check_clue.ensures in
+    let ok = clue_ok _ _ c.in_ok-space.ensures in
     answers_wrote _ _ ok.passes (omega (arith, starts_words_length c.args.length c.args.clue.now, c.if-out-need.false))
     (starts_wrote _ _ _ c.positions_number.ensures ok.space_is (omega (arith, c.if-out-need.false)) c.block_starts.ensures)

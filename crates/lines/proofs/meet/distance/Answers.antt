@@ -1,7 +1,7 @@
 use mathlib.Core.Path.{◌≡◌}
-use Prim.Native.Nat.{◌+◌, ◌-◌, ◌≤◌}
+use Prim.Native.Nat.{◌+◌, ◌-◌}
 use native.Mathlib.Omega.{arith}
-use Rattle.lines.specs.Clue.{end, gap}
+use Rattle.lines.specs.Clue.{gap}
 use Rattle.lines.specs.Arrangement.{distance}
 use Rattle.lines.specs.Runs.{run}
 use Rattle.lines.proofs.Packing.{base_gap}
