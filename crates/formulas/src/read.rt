@@ -1,96 +1,64 @@
-// The readers of clause words of any kind. Each gets the words that are left and the place where they begin, and answers the place behind what it read.
-ghost use Rattle.std.specs.Prelude.{◌≡◌, ◌+◌, ◌^◌, ◌<◌, length};
-ghost use Rattle.refusals.specs.Told.{told};
-ghost use Rattle.refusals.specs.Walk.{outcome, times};
-ghost use Rattle.formulas.specs.Walk.{read_literal, read_clause, read_section};
+// The readers of clause words of any kind, with as many variables.
+ghost use Rattle.std.specs.Prelude.{List, ℤ, nat_abs};
+ghost use Rattle.refusals.specs.Walk.{counted, word};
+ghost use Rattle.literals.specs.Literals.{is_negative, off_literal};
+ghost use Rattle.walks.proofs.Onwards.{word_onward, counted_onward};
+ghost use Rattle.formulas.specs.Walk.{read_literal};
 
-use crate::word::{count, is_negative};
-use literals::{Literal, Read};
-use refusals::{Answer, Refusal};
+use refusals::Refusal;
+use walks::{Reads, read_times};
 
-fn read_literal(variables: u32, part: &[i32], at: usize) -> Answer
-    requires { at + length part.now < 2 ^ 63 }
-    ensures { told result ≡ outcome (read_literal variables at part.now) }
-{
-    if part.len() == 0 {
-        return Answer::Refused(Refusal::ClauseWords(at));
-    }
-    let read = Literal::read(part[0], variables);
-    let Read::Good(_) = read else {
-        return Answer::Refused(Refusal::ClauseWords(at));
-    };
-    Answer::Accepted(at + 1)
+#[derive(Clone, Copy)]
+pub struct Literal {
+    pub variables: u32,
 }
 
-fn read_literals(variables: u32, n: usize, part: &[i32], at: usize) -> Answer
-    requires { at + length part.now < 2 ^ 63 }
-    ensures { told result ≡ outcome (times n (read_literal variables) at part.now) }
-{
-    let mut i = 0;
-    for k in 0..n {
-        let read = read_literal(variables, &part[i..], at + i);
-        let Answer::Accepted(next) = read else {
-            return read;
+impl Reads for Literal {
+    type Word = i32;
+
+    ghost item = { ℤ };
+
+    ghost walk = { λ l. read_literal l.variables };
+
+    ghost onward = { λ l. word_onward 22 (off_literal l.variables) 22 };
+
+    fn read(self, part: &[i32], at: usize) -> Result<usize, Refusal> {
+        let Some((&word, _)) = part.split_first() else {
+            return Err(Refusal::ClauseWords(at));
         };
-        i = next - at;
-    }
-    Answer::Accepted(at + i)
-}
-
-fn read_clause(variables: u32, part: &[i32], at: usize) -> Answer
-    requires { at + length part.now < 2 ^ 63 }
-    ensures { told result ≡ outcome (read_clause variables at part.now) }
-{
-    if part.len() == 0 {
-        return Answer::Refused(Refusal::ClauseWords(at));
-    }
-    let n = part[0];
-    if is_negative(n) {
-        return Answer::Refused(Refusal::ClauseWords(at));
-    }
-    read_literals(variables, count(n), &part[1..], at + 1)
-}
-
-fn read_clauses(variables: u32, n: usize, part: &[i32], at: usize) -> Answer
-    requires { at + length part.now < 2 ^ 63 }
-    ensures { told result ≡ outcome (times n (read_clause variables) at part.now) }
-{
-    let mut i = 0;
-    for k in 0..n {
-        let read = read_clause(variables, &part[i..], at + i);
-        let Answer::Accepted(next) = read else {
-            return read;
+        let Some(_) = literals::Literal::read(word, self.variables) else {
+            return Err(Refusal::ClauseWords(at));
         };
-        i = next - at;
+        Ok(at + 1)
     }
-    Answer::Accepted(at + i)
 }
 
-fn read_section(variables: u32, part: &[i32], at: usize) -> Answer
-    requires { at + length part.now < 2 ^ 63 }
-    ensures { told result ≡ outcome (read_section variables at part.now) }
-{
-    if part.len() == 0 {
-        return Answer::Refused(Refusal::ClauseWords(at));
-    }
-    let n = part[0];
-    if is_negative(n) {
-        return Answer::Refused(Refusal::ClauseWords(at));
-    }
-    read_clauses(variables, count(n), &part[1..], at + 1)
+// A count, and as many after it.
+#[derive(Clone, Copy)]
+pub struct Counted<R> {
+    pub of: R,
 }
 
-pub fn read_sections(variables: u32, n: usize, part: &[i32], at: usize) -> Answer
-    requires { at + length part.now < 2 ^ 63 }
-    ensures { told result ≡ outcome (times n (read_section variables) at part.now) }
-{
-    let mut i = 0;
-    for k in 0..n {
-        let read = read_section(variables, &part[i..], at + i);
-        let Answer::Accepted(next) = read else {
-            return read;
+impl<R: Reads<Word = i32>> Reads for Counted<R> {
+    type Word = i32;
+
+    ghost item = { List R.item };
+
+    ghost walk = { λ c. counted nat_abs (word 22 is_negative 22) (R.walk c.of) };
+
+    ghost onward = { λ c. counted_onward (R.onward c.of) nat_abs (word_onward 22 is_negative 22) };
+
+    fn read(self, part: &[i32], at: usize) -> Result<usize, Refusal> {
+        let Some((&n, rest)) = part.split_first() else {
+            return Err(Refusal::ClauseWords(at));
         };
-        i = next - at;
+        let Ok(n) = usize::try_from(n) else {
+            return Err(Refusal::ClauseWords(at));
+        };
+        read_times(self.of, n, rest, at + 1)
     }
-    Answer::Accepted(at + i)
 }
+
+pub type Clause = Counted<Literal>;
+
+pub type Section = Counted<Clause>;

@@ -7,8 +7,8 @@ use borrow.Author.Tests.{le-ltb, ne_eqb, ltb-false, eqb-false}
 use lib.IntN.{ℤ, negsuc}
 use lib.Dec.{eqb, ltb}
 use Rattle.lists.proofs.Tests.{neither}
-use Rattle.literals.specs.declared.Read.{Read}
-use Rattle.literals.specs.declared.Read.TheVariants.{Good, Wrong}
+use Rattle.std.specs.Prelude.{Option, Some, None}
+use Rattle.literals.specs.declared.Literal.{Literal}
 use Rattle.literals.specs.Literals.{largest, IsVariable, variable, off_literal, Reading}
 
 -- the smallest i32 is refused
@@ -23,16 +23,16 @@ module _ (n : ℕ) (z : ℤ) where
       let b = neither (ltb n (variable z)) (ltb largest (variable z)) a.1 in
       (record { least = omega (arith, eqb-false (variable z) 0 a.0); most = ltb-false largest (variable z) b.1 }, ltb-false n (variable z) b.0)
 
-  pub reading_determined : (r s : Read) → Reading n z r → Reading n z s → r ≡ s
-  reading_determined (Good l) (Good k) a b = ap (λ (w : ℤ). Good (record { word = w })) (a.1 ∙ sym b.1)
-  reading_determined (Good l) Wrong a b = absurd (true≢false (sym b ∙ a.0))
-  reading_determined Wrong (Good k) a b = absurd (true≢false (sym a ∙ b.0))
-  reading_determined Wrong Wrong a b = refl
+  pub reading_determined : (r s : Option Literal) → Reading n z r → Reading n z s → r ≡ s
+  reading_determined (Some l) (Some k) a b = ap (λ (w : ℤ). Some (record { word = w })) (a.1 ∙ sym b.1)
+  reading_determined (Some l) None a b = absurd (true≢false (sym b ∙ a.0))
+  reading_determined None (Some k) a b = absurd (true≢false (sym a ∙ b.0))
+  reading_determined None None a b = refl
 
   -- of a word that was made from a variable v
   module _ {v : ℕ} (e : variable z ≡ v) (i : IsVariable v) (h : v ≤ n) where
     pub made_literal : off_literal n z ≡ false
     made_literal = rw (e, ne_eqb v 0 (λ e. omega arith), le-ltb n v h, le-ltb largest v i.most)
 
-    pub read_back : (r : Read) → Reading n z r → r ≡ Good (record { word = z })
-    read_back r a = reading_determined r (Good (record { word = z })) a (made_literal, refl)
+    pub read_back : (r : Option Literal) → Reading n z r → r ≡ Some (record { word = z })
+    read_back r a = reading_determined r (Some (record { word = z })) a (made_literal, refl)

@@ -1,7 +1,6 @@
 -- Document 01: a literal is v or -v. In clause words it is an integer.
-use Rattle.std.specs.Prelude.{◌≡◌, Bool, true, false, ◌||◌, ℕ, ◌≤◌, ◌<◌, ℤ, pos, negsuc, neg_ℤ, nat_abs, eqb, ltb}
-use Rattle.literals.specs.declared.Read.{Read}
-use Rattle.literals.specs.declared.Read.TheVariants.{Good, Wrong}
+use Rattle.std.specs.Prelude.{◌≡◌, Bool, true, false, ◌||◌, Option, Some, None, ℕ, ◌≤◌, ◌<◌, ℤ, pos, negsuc, neg_ℤ, nat_abs, eqb, ltb}
+use Rattle.literals.specs.declared.Literal.{Literal}
 
 -- the largest variable of a literal
 abbrev pub largest : ℕ
@@ -32,6 +31,6 @@ abbrev pub off_literal : ℕ → ℤ → Bool
 off_literal n z = eqb (variable z) 0 || (ltb n (variable z) || ltb largest (variable z))
 
 -- what a word is read as
-abbrev pub Reading : ℕ → ℤ → Read → Type 0
-Reading n z (Good l) = (off_literal n z ≡ false) × (l.word ≡ z)
-Reading n z Wrong = off_literal n z ≡ true
+abbrev pub Reading : ℕ → ℤ → Option Literal → Type 0
+Reading n z (Some l) = (off_literal n z ≡ false) × (l.word ≡ z)
+Reading n z None = off_literal n z ≡ true

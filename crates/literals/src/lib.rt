@@ -9,13 +9,6 @@ pub struct Literal {
     word: i32,
 }
 
-// What a word is read as.
-#[derive(Clone, Copy)]
-pub enum Read {
-    Good(Literal),
-    Wrong,
-}
-
 impl Literal {
     // The largest variable.
     pub const LARGEST: u32 = 1_000_000;
@@ -42,40 +35,37 @@ impl Literal {
         Literal { word: word }
     }
 
-    pub fn as_word(self) -> i32
-        ensures { result ≡ self.word }
-    {
-        self.word
-    }
-
     pub fn is_negative(self) -> bool
         ensures { result ≡ is_negative self.word }
     {
-        self.word < 0
+        self.word.is_negative()
     }
 
-    // The variable. In 64 bits the smallest i32 has a negation too.
+    // The variable.
     pub fn magnitude(self) -> u32
         ensures { result ≡ variable self.word }
     {
-        let w = self.word as i64;
-        if self.is_negative() {
-            (-w) as u32
-        } else {
-            w as u32
-        }
+        self.word.unsigned_abs()
     }
 
     // Any word and any number of variables. The smallest i32 is refused as out of range.
-    pub fn read(word: i32, variables: u32) -> Read
+    pub fn read(word: i32, variables: u32) -> Option<Literal>
         ensures { Reading variables word result }
     {
         let literal = Literal { word: word };
         let v = literal.magnitude();
         if v == 0 || v > variables || v > Self::LARGEST {
-            return Read::Wrong;
+            return None;
         }
-        Read::Good(literal)
+        Some(literal)
+    }
+}
+
+impl From<Literal> for i32 {
+    ghost from_gives = { λ literal word. word ≡ literal.word };
+
+    fn from(literal: Literal) -> i32 {
+        literal.word
     }
 }
 
@@ -84,14 +74,14 @@ pub fn yes(v: usize) -> i32
     requires { IsVariable v }
     ensures { result ≡ positive v }
 {
-    Literal::positive(v as u32).as_word()
+    Literal::positive(v as u32).into()
 }
 
 pub fn no(v: usize) -> i32
     requires { IsVariable v }
     ensures { result ≡ negative v }
 {
-    Literal::negative(v as u32).as_word()
+    Literal::negative(v as u32).into()
 }
 
 // The word of a count.

@@ -2,20 +2,19 @@
 use mathlib.Core.Path.{◌≡◌, refl, sym, ap, ◌∙◌}
 use mathlib.Core.Bool.{Bool, true, false}
 use mathlib.Core.List.{List, [], ◌∷◌}
-use Prim.Native.Nat.{ℕ, suc, ◌+◌, ◌-◌, ◌≤◌, ◌<◌}
+use Prim.Native.Nat.{ℕ, ◌+◌, ◌≤◌, ◌<◌}
 use native.Mathlib.Omega.{arith}
 use native.Mathlib.Nat.{add-zero}
-use lib.ListN.{length, take, drop, get_or, length-append, length-drop}
-use lib.Seq.{drop_at, drop-drop, get_or-drop}
+use lib.ListN.{length, drop, get_or, length-append, length-drop}
+use lib.Seq.{drop-drop, get_or-drop}
 use borrow.Author.Tests.{lt-ltb, le-ltb}
-use Rattle.lists.proofs.Writing.{tail_is}
 use Rattle.refusals.specs.declared.Refusal.{Refusal}
 use Rattle.refusals.specs.Verdict.{Verdict, accepted, refused, passed}
 use Rattle.refusals.specs.Told.{refusal}
 use Rattle.refusals.specs.Walk.{Walk, got, outcome, walked, stop_if, stop, word, times, counted}
 use Rattle.refusals.proofs.Answering.{refusal_is}
-use Rattle.refusals.proofs.Walking.{Got, outcome_got, stopped, next_refused, next_keeps}
-use Rattle.refusals.proofs.Readers.{Reads, Reader}
+use Rattle.refusals.proofs.Walking.{Got, outcome_got, stopped}
+use Rattle.refusals.proofs.Readers.{Reads}
 
 -- ---- a word
 
@@ -40,93 +39,41 @@ module _ {B : Type 0} (d : B) (n : ℕ) (off : B → Bool) (k i : ℕ) where
         let e = add-zero j in
         first_some (drop j ws) (omega (arith, length-drop j ws)) ∙ rw (get_or-drop j ws 0 d, e, drop-drop 1 j ws)
 
-module _ {B : Type 0} (d : B) (n : ℕ) (off : B → Bool) (k at : ℕ) (part : List B) where
-  pub word_missing : length part ≡ 0 → refused n at ≡ outcome (word n off k at part)
-  word_missing e = sym (ap outcome (word_none d n off k at part 0 e))
+module _ {B : Type 0} (n : ℕ) (off : B → Bool) (k at : ℕ) where
+  none_is : (part : List B) → length part ≡ 0 → word n off k at part ≡ stop n at
+  unfolding word
+  none_is [] e = refl
+  none_is (x ∷ ws) e = absurd (omega arith)
 
-  module _ (h : length part ≡ 0 → ⊥) {x : B} (w : x ≡ get_or part 0 d) where
-    word_is : word n off k at part ≡ stop_if (off x) k at (got x (at + 1) (drop 1 part))
-    word_is = word_some d n off k at part 0 (omega arith) ∙ rw w
+  some_is : {part : List B} {x : B} {us : List B} → part ≡ x ∷ us → word n off k at part ≡ stop_if (off x) k at (got x (at + 1) us)
+  unfolding word
+  some_is p = rw p
 
+  pub word_missing : (part : List B) → length part ≡ 0 → refused n at ≡ outcome (word n off k at part)
+  word_missing part e = sym (ap outcome (none_is part e))
+
+  module _ {part : List B} {x : B} {us : List B} (p : part ≡ x ∷ us) where
     pub word_off : off x ≡ true → refused k at ≡ outcome (word n off k at part)
-    word_off o = sym (ap outcome word_is ∙ rw o)
+    word_off o = sym (ap outcome (some_is p) ∙ rw o)
 
     pub word_on : off x ≡ false → accepted (at + 1) ≡ outcome (word n off k at part)
-    word_on o = sym (ap outcome word_is ∙ rw o)
-
--- ---- n of them, one after another
-
-module _ {B A : Type 0} where
-  -- l of n have been read, in i words
-  pub record Passing (f : ℕ → List B → Walk B A) (n at : ℕ) (part : List B) (l i : ℕ) : Type 0 where
-    pub few : l ≤ n
-    pub within : i ≤ length part
-    pub same : outcome (times n f at part) ≡ outcome (times (n - l) f (at + i) (drop i part))
-
-  pub passing_first : (f : ℕ → List B → Walk B A) (n at : ℕ) (part : List B) → Passing f n at part 0 0
-  passing_first f n at part =
-      let e : n - 0 ≡ n = omega arith in
-      record { few = omega arith; within = omega arith; same = rw (e, add-zero) }
-
-  -- the next one is read from the part that is left, `&part[i..]`
-  module _ {f : ℕ → List B → Walk B A} {n at l i : ℕ} {part : List B} (P : Passing f n at part l i) where
-    pub passing_stop : l < n → (why : Refusal) → refusal why ≡ outcome (f (at + i) (take (length part - i) (drop i part))) → refusal why ≡ outcome (times n f at part)
-    unfolding times
-    passing_stop h why e =
-        let m : n - l ≡ suc (n - l - 1) = omega arith in
-        let t = refusal_is why in
-        t ∙ sym (P.same ∙ rw m (next_refused (f (at + i) (drop i part)) _ (sym (rw (tail_is part i) at e) ∙ t)))
-
-    module _ {W : A → List B} {Fine : A → Type 0} (R : Reader f W Fine) {j : ℕ} (e : accepted j ≡ outcome (f (at + i) (take (length part - i) (drop i part)))) where
-      read : Got (f (at + i) (drop i part)) j
-      read = outcome_got (f (at + i) (drop i part)) (rw (tail_is part i) at e)
-
-      went : (a : A) (us : List B) → f (at + i) (drop i part) ≡ got a j us → (at + i ≤ j) × (j ≤ at + length part) × (drop (j - at) part ≡ us)
-      went a us g =
-          let r = R.only (at + i) (drop i part) a j us g in
-          let n : i + length (W a) ≡ j - at = omega (arith, r.place_is) in (
-            omega (arith, r.place_is),
-            omega (arith, r.place_is, ap length r.words_are, length-append (W a) us, length-drop i part, P.within),
-            ap (λ (k : ℕ). drop k part) (sym n) ∙ sym (drop-drop (length (W a)) i part) ∙ rw r.words_are (drop_at (W a) us (length (W a)) refl),
-          )
-
-      pub passing_low : at + i ≤ j
-      passing_low = (went read.value read.left read.got_is).0
-
-      pub passing_next : l < n → Passing f n at part (l + 1) (j - at)
-      unfolding times
-      passing_next h =
-          let p = went read.value read.left read.got_is in
-          let m : n - l ≡ suc (n - (l + 1)) = omega arith in
-          let b : at + (j - at) ≡ j = omega (arith, p.0) in
-          record {
-            few = omega arith;
-            within = omega (arith, p.0, p.1);
-            same = P.same ∙ rw (m, read.got_is, b, p.2) (next_keeps (◌∷◌ read.value) (times (n - (l + 1)) f j read.left));
-          }
-
-  pub passing_done : {f : ℕ → List B → Walk B A} {n at l i : ℕ} {part : List B} → Passing f n at part l i → n ≤ l → accepted (at + i) ≡ outcome (times n f at part)
-  unfolding times
-  passing_done {f} {n} {at} {l} {i} {part} P h =
-      let m : n - l ≡ 0 = omega arith in
-      sym (P.same ∙ rw m)
+    word_on o = sym (ap outcome (some_is p) ∙ rw o)
 
 -- ---- a count, and as many after it
 
-module _ {B A : Type 0} (d : B) (size : B → ℕ) (m : ℕ) (off : B → Bool) (k : ℕ) (f : ℕ → List B → Walk B A) (at : ℕ) (part : List B) where
-  pub count_missing : length part ≡ 0 → refused m at ≡ outcome (counted size (word m off k) f at part)
+module _ {B A : Type 0} (size : B → ℕ) (m : ℕ) (off : B → Bool) (k : ℕ) (f : ℕ → List B → Walk B A) (at : ℕ) where
+  pub count_missing : (part : List B) → length part ≡ 0 → refused m at ≡ outcome (counted size (word m off k) f at part)
   unfolding counted
-  count_missing e = rw (word_none d m off k at part 0 e)
+  count_missing part e = rw (none_is m off k at part e)
 
-  module _ (h : length part ≡ 0 → ⊥) {x : B} (w : x ≡ get_or part 0 d) where
+  module _ {part : List B} {x : B} {us : List B} (p : part ≡ x ∷ us) where
     pub count_off : off x ≡ true → refused k at ≡ outcome (counted size (word m off k) f at part)
     unfolding counted
-    count_off o = rw (word_is d m off k at part h w, o)
+    count_off o = rw (some_is m off k at p, o)
 
-    -- they are read from the part that is left, `&part[1..]`
-    pub count_on : off x ≡ false → {n : ℕ} → n ≡ size x → {v : Verdict ℕ} → v ≡ outcome (times n f (at + 1) (take (length part - 1) (drop 1 part))) → v ≡ outcome (counted size (word m off k) f at part)
+    pub count_on : off x ≡ false → {v : Verdict ℕ} → v ≡ outcome (times (size x) f (at + 1) us) → v ≡ outcome (counted size (word m off k) f at part)
     unfolding counted
-    count_on o e t = t ∙ rw (tail_is part 1, e, word_is d m off k at part h w, o)
+    count_on o t = t ∙ rw (some_is m off k at p, o)
 
 -- ---- the whole, and what it leaves
 

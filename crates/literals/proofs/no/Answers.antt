@@ -1,6 +1,0 @@
-use mathlib.Core.Path.{◌∙◌}
-use Rattle.literals.proofs.Words.{word_is}
-use Rattle.literals.proofs.no.Goals as goal
-
-pub returns : goal.returns
-returns c = word_is _ c.as_word.type_inv ∙ c.as_word.ensures ∙ c.negative.ensures
