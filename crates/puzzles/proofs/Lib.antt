@@ -2,6 +2,5 @@ pub mod Readers
 pub mod Lines
 pub mod Accepting
 pub mod ColorSets
-pub mod Blocks
 pub mod Places
 pub mod Stopping

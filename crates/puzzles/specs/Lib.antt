@@ -5,3 +5,5 @@ pub mod Checks
 pub mod Good
 pub mod Firsts
 pub mod Stops
+pub mod Onward
+pub mod Section

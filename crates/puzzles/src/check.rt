@@ -9,28 +9,19 @@ ghost use Rattle.puzzles.specs.Checks.{puzzle_of};
 
 use crate::section::{read_cells, read_lines};
 use lists::wide;
-use refusals::{Answer, Refusal};
+use refusals::Refusal;
 
 // The walk, then 11; and else the place where the rows begin. The part is words from place `at` on.
-pub fn check_sections(part: &[u32], at: usize) -> Answer
+pub fn check_sections(part: &[u32], at: usize) -> Result<usize, Refusal>
     requires { at + length part.now < 2 ^ 63 }
     ensures { told result ≡ and_then (walked 11 (read_puzzle at part.now)) (accepted (at + rows_at (puzzle_of (read_puzzle at part.now)))) }
 {
-    let columns = read_lines(part, at);
-    let Answer::Accepted(rows) = columns else {
-        return columns;
-    };
-    let read = read_lines(&part[rows - at..], rows);
-    let Answer::Accepted(cells) = read else {
-        return read;
-    };
+    let rows = read_lines(part, at)?;
+    let cells = read_lines(&part[rows - at..], rows)?;
     let area = wide(part[0]) * wide(part[rows - at]);
-    let masks = read_cells(area, &part[cells - at..], cells);
-    let Answer::Accepted(end) = masks else {
-        return masks;
-    };
+    let end = read_cells(area, &part[cells - at..], cells)?;
     if end - at < part.len() {
-        return Answer::Refused(Refusal::LeftOver(end));
+        return Err(Refusal::LeftOver(end));
     }
-    Answer::Accepted(rows)
+    Ok(rows)
 }

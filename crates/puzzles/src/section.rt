@@ -1,129 +1,120 @@
-// The readers of a puzzle's sections. Each gets the words that are left and the place where they begin, and answers the place behind what it read.
-ghost use Rattle.std.specs.Prelude.{◌≡◌, ◌+◌, ◌^◌, ◌<◌, length};
+// The readers of a puzzle's sections.
+ghost use Rattle.std.specs.Prelude.{◌≡◌, ◌+◌, ◌^◌, ◌<◌, ◌≤◌, eqb, IfOk, List, length, ℕ};
 ghost use Rattle.refusals.specs.Told.{told};
-ghost use Rattle.refusals.specs.Walk.{outcome, times};
+ghost use Rattle.refusals.specs.Walk.{outcome};
+ghost use Rattle.walks.proofs.Onwards.{word_onward};
+ghost use Rattle.lines.specs.Clue.{Block};
 ghost use Rattle.puzzles.specs.Walk.{read_block, read_clue, read_lines, read_mask, read_cells};
+ghost use Rattle.puzzles.specs.Section.{IsLines};
+ghost use Rattle.puzzles.specs.Onward.{block_onward, clue_onward};
 
 use lines::limits::{off_color, off_size};
 use lists::wide;
-use refusals::{Answer, Refusal};
+use refusals::Refusal;
+use walks::{Reads, read_times};
 
-fn read_block(part: &[u32], at: usize) -> Answer
-    requires { at + length part.now < 2 ^ 63 }
-    ensures { told result ≡ outcome (read_block at part.now) }
-{
-    if part.len() == 0 {
-        return Answer::Refused(Refusal::WordMissing(at));
-    }
-    if part[0] == 0 {
-        return Answer::Refused(Refusal::EmptyBlock(at));
-    }
-    if part.len() == 1 {
-        return Answer::Refused(Refusal::WordMissing(at + 1));
-    }
-    if off_color(part[1]) {
-        return Answer::Refused(Refusal::BlockColor(at + 1));
-    }
-    Answer::Accepted(at + 2)
-}
+#[derive(Clone, Copy)]
+struct Block;
 
-fn read_blocks(n: usize, part: &[u32], at: usize) -> Answer
-    requires { at + length part.now < 2 ^ 63 }
-    ensures { told result ≡ outcome (times n read_block at part.now) }
-{
-    let mut i = 0;
-    for k in 0..n {
-        let read = read_block(&part[i..], at + i);
-        let Answer::Accepted(next) = read else {
-            return read;
+impl Reads for Block {
+    type Word = u32;
+
+    ghost item = { Block };
+
+    ghost walk = { λ _. read_block };
+
+    ghost onward = { λ _. block_onward };
+
+    fn read(self, part: &[u32], at: usize) -> Result<usize, Refusal> {
+        let Some((&size, rest)) = part.split_first() else {
+            return Err(Refusal::WordMissing(at));
         };
-        i = next - at;
-    }
-    Answer::Accepted(at + i)
-}
-
-fn read_clue(part: &[u32], at: usize) -> Answer
-    requires { at + length part.now < 2 ^ 63 }
-    ensures { told result ≡ outcome (read_clue at part.now) }
-{
-    if part.len() == 0 {
-        return Answer::Refused(Refusal::WordMissing(at));
-    }
-    let n = wide(part[0]);
-    if 64 < n {
-        return Answer::Refused(Refusal::TooManyBlocks(at));
-    }
-    read_blocks(n, &part[1..], at + 1)
-}
-
-fn read_clues(n: usize, part: &[u32], at: usize) -> Answer
-    requires { at + length part.now < 2 ^ 63 }
-    ensures { told result ≡ outcome (times n read_clue at part.now) }
-{
-    let mut i = 0;
-    for k in 0..n {
-        let read = read_clue(&part[i..], at + i);
-        let Answer::Accepted(next) = read else {
-            return read;
+        if size == 0 {
+            return Err(Refusal::EmptyBlock(at));
+        }
+        let Some((&color, _)) = rest.split_first() else {
+            return Err(Refusal::WordMissing(at + 1));
         };
-        i = next - at;
+        if off_color(color) {
+            return Err(Refusal::BlockColor(at + 1));
+        }
+        Ok(at + 2)
     }
-    Answer::Accepted(at + i)
+}
+
+#[derive(Clone, Copy)]
+struct Clue;
+
+impl Reads for Clue {
+    type Word = u32;
+
+    ghost item = { List Block };
+
+    ghost walk = { λ _. read_clue };
+
+    ghost onward = { λ _. clue_onward };
+
+    fn read(self, part: &[u32], at: usize) -> Result<usize, Refusal> {
+        let Some((&n, rest)) = part.split_first() else {
+            return Err(Refusal::WordMissing(at));
+        };
+        if 64 < n {
+            return Err(Refusal::TooManyBlocks(at));
+        }
+        read_times(Block, wide(n), rest, at + 1)
+    }
 }
 
 // Columns, or rows.
-pub fn read_lines(part: &[u32], at: usize) -> Answer
+pub fn read_lines(part: &[u32], at: usize) -> Result<usize, Refusal>
     requires { at + length part.now < 2 ^ 63 }
-    ensures { told result ≡ outcome (read_lines at part.now) }
+    ensures walk { told result ≡ outcome (read_lines at part.now) }
+    ensures within { IfOk result (λ end. IsLines at part.now end) }
 {
-    if part.len() == 0 {
-        return Answer::Refused(Refusal::WordMissing(at));
-    }
-    let n = wide(part[0]);
+    let Some((&n, rest)) = part.split_first() else {
+        return Err(Refusal::WordMissing(at));
+    };
+    let n = wide(n);
     if off_size(n) {
-        return Answer::Refused(Refusal::Size(at));
+        return Err(Refusal::Size(at));
     }
-    read_clues(n, &part[1..], at + 1)
+    read_times(Clue, n, rest, at + 1)
 }
 
-fn read_mask(part: &[u32], at: usize) -> Answer
-    requires { at + length part.now < 2 ^ 63 }
-    ensures { told result ≡ outcome (read_mask at part.now) }
-{
-    if part.len() == 0 {
-        return Answer::Refused(Refusal::WordMissing(at));
-    }
-    if part[0] == 0 {
-        return Answer::Refused(Refusal::EmptyMask(at));
-    }
-    Answer::Accepted(at + 1)
-}
+#[derive(Clone, Copy)]
+struct Mask;
 
-fn read_masks(n: usize, part: &[u32], at: usize) -> Answer
-    requires { at + length part.now < 2 ^ 63 }
-    ensures { told result ≡ outcome (times n read_mask at part.now) }
-{
-    let mut i = 0;
-    for k in 0..n {
-        let read = read_mask(&part[i..], at + i);
-        let Answer::Accepted(next) = read else {
-            return read;
+impl Reads for Mask {
+    type Word = u32;
+
+    ghost item = { ℕ };
+
+    ghost walk = { λ _. read_mask };
+
+    ghost onward = { λ _. word_onward 1 (λ w. eqb w 0) 8 };
+
+    fn read(self, part: &[u32], at: usize) -> Result<usize, Refusal> {
+        let Some((&mask, _)) = part.split_first() else {
+            return Err(Refusal::WordMissing(at));
         };
-        i = next - at;
+        if mask == 0 {
+            return Err(Refusal::EmptyMask(at));
+        }
+        Ok(at + 1)
     }
-    Answer::Accepted(at + i)
 }
 
-pub fn read_cells(area: usize, part: &[u32], at: usize) -> Answer
+pub fn read_cells(area: usize, part: &[u32], at: usize) -> Result<usize, Refusal>
     requires { at + length part.now < 2 ^ 63 }
-    ensures { told result ≡ outcome (read_cells area at part.now) }
+    ensures walk { told result ≡ outcome (read_cells area at part.now) }
+    ensures within { IfOk result (λ end. (at ≤ end) × (end ≤ at + length part.now)) }
 {
-    if part.len() == 0 {
-        return Answer::Refused(Refusal::WordMissing(at));
-    }
-    let n = wide(part[0]);
+    let Some((&n, rest)) = part.split_first() else {
+        return Err(Refusal::WordMissing(at));
+    };
+    let n = wide(n);
     if n != area {
-        return Answer::Refused(Refusal::CellCount(at));
+        return Err(Refusal::CellCount(at));
     }
-    read_masks(n, &part[1..], at + 1)
+    read_times(Mask, n, rest, at + 1)
 }

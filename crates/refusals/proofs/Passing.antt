@@ -18,62 +18,41 @@ use Rattle.refusals.proofs.Readers.{Reads}
 
 -- ---- a word
 
-module _ {B : Type 0} (d : B) (n : ℕ) (off : B → Bool) (k i : ℕ) where
-  first_none : (ws : List B) → length ws ≡ 0 → word n off k i ws ≡ stop n i
-  unfolding word
-  first_none [] e = refl
-  first_none (x ∷ ws) e = absurd (omega arith)
-
-  first_some : (ws : List B) → 0 < length ws → word n off k i ws ≡ stop_if (off (get_or ws 0 d)) k i (got (get_or ws 0 d) (i + 1) (drop 1 ws))
-  unfolding word
-  first_some [] h = absurd (omega arith)
-  first_some (x ∷ ws) h = refl
-
-  -- behind j others
-  module _ (ws : List B) (j : ℕ) where
-    pub word_none : length ws ≡ j → word n off k i (drop j ws) ≡ stop n i
-    word_none e = first_none (drop j ws) (length-drop j ws ∙ omega arith)
-
-    pub word_some : j < length ws → word n off k i (drop j ws) ≡ stop_if (off (get_or ws j d)) k i (got (get_or ws j d) (i + 1) (drop (j + 1) ws))
-    word_some h =
-        let e = add-zero j in
-        first_some (drop j ws) (omega (arith, length-drop j ws)) ∙ rw (get_or-drop j ws 0 d, e, drop-drop 1 j ws)
-
 module _ {B : Type 0} (n : ℕ) (off : B → Bool) (k at : ℕ) where
-  none_is : (part : List B) → length part ≡ 0 → word n off k at part ≡ stop n at
+  pub word_none : (part : List B) → length part ≡ 0 → word n off k at part ≡ stop n at
   unfolding word
-  none_is [] e = refl
-  none_is (x ∷ ws) e = absurd (omega arith)
+  word_none [] e = refl
+  word_none (x ∷ ws) e = absurd (omega arith)
 
-  some_is : {part : List B} {x : B} {us : List B} → part ≡ x ∷ us → word n off k at part ≡ stop_if (off x) k at (got x (at + 1) us)
+  pub word_some : {part : List B} {x : B} {us : List B} → part ≡ x ∷ us → word n off k at part ≡ stop_if (off x) k at (got x (at + 1) us)
   unfolding word
-  some_is p = rw p
+  word_some p = rw p
 
   pub word_missing : (part : List B) → length part ≡ 0 → refused n at ≡ outcome (word n off k at part)
-  word_missing part e = sym (ap outcome (none_is part e))
+  word_missing part e = sym (ap outcome (word_none part e))
 
   module _ {part : List B} {x : B} {us : List B} (p : part ≡ x ∷ us) where
     pub word_off : off x ≡ true → refused k at ≡ outcome (word n off k at part)
-    word_off o = sym (ap outcome (some_is p) ∙ rw o)
+    word_off o = sym (ap outcome (word_some p) ∙ rw o)
 
     pub word_on : off x ≡ false → accepted (at + 1) ≡ outcome (word n off k at part)
-    word_on o = sym (ap outcome (some_is p) ∙ rw o)
+    word_on o = sym (ap outcome (word_some p) ∙ rw o)
 
 -- ---- a count, and as many after it
 
 module _ {B A : Type 0} (size : B → ℕ) (m : ℕ) (off : B → Bool) (k : ℕ) (f : ℕ → List B → Walk B A) (at : ℕ) where
   pub count_missing : (part : List B) → length part ≡ 0 → refused m at ≡ outcome (counted size (word m off k) f at part)
   unfolding counted
-  count_missing part e = rw (none_is m off k at part e)
+  count_missing part e = rw (word_none m off k at part e)
 
   module _ {part : List B} {x : B} {us : List B} (p : part ≡ x ∷ us) where
     pub count_off : off x ≡ true → refused k at ≡ outcome (counted size (word m off k) f at part)
     unfolding counted
-    count_off o = rw (some_is m off k at p, o)
+    count_off o = rw (word_some m off k at p, o)
 
     pub count_on : off x ≡ false → {v : Verdict ℕ} → v ≡ outcome (times (size x) f (at + 1) us) → v ≡ outcome (counted size (word m off k) f at part)
     unfolding counted
-    count_on o t = t ∙ rw (some_is m off k at p, o)
+    count_on o t = t ∙ rw (word_some m off k at p, o)
 
 -- ---- the whole, and what it leaves
 

@@ -1,12 +1,17 @@
+use mathlib.Core.Path.{sym, ◌∙◌}
+use Rattle.lines.specs.Calls.{off_size}
 use Rattle.refusals.proofs.Passing.{count_missing, count_off, count_on}
-use mathlib.Core.Path.{refl, sym, ◌∙◌}
+use Rattle.puzzles.proofs.Places.{lines_within}
 use Rattle.puzzles.proofs.section.read_lines.Goals as goal
 
-pub returns-then-part-eq0 : goal.returns-then-part-eq0
-returns-then-part-eq0 c = count_missing 0 _ _ _ _ _ _ _ c.if-part-eq0.true
+pub returns-in_default-clause-walk : goal.returns-in_default-clause-walk
+returns-in_default-clause-walk c = count_missing _ _ _ _ _ _ _ c.in_default.ensures.cases
 
-pub returns-then-off_size : goal.returns-then-off_size
-returns-then-off_size c = count_off 0 _ _ _ _ _ _ _ c.if-part-eq0.false c.wide-n.ensures (sym c.off_size.ensures ∙ c.if-off_size.true)
+pub returns-then-off_size-clause-walk : goal.returns-then-off_size-clause-walk
+returns-then-off_size-clause-walk c = count_off _ _ _ _ _ _ c.in-Some.ensures.cases.0 (rw (← c.wide-n.ensures) (sym c.off_size.ensures ∙ c.if-off_size.true))
 
-pub returns : goal.returns
-returns c = count_on 0 _ _ _ _ _ _ _ c.if-part-eq0.false c.wide-n.ensures (sym c.off_size.ensures ∙ c.if-off_size.false) refl c.read_clues.ensures
+pub returns-clause-walk : goal.returns-clause-walk
+returns-clause-walk c = count_on _ _ _ _ _ _ c.in-Some.ensures.cases.0 (rw (← c.wide-n.ensures) (sym c.off_size.ensures ∙ c.if-off_size.false)) (rw (← c.wide-n.ensures) c.read_times.ensures)
+
+pub returns-clause-within : goal.returns-clause-within
+returns-clause-within c = lines_within _ _ _ (returns-clause-walk c)
