@@ -13,7 +13,7 @@ ghost use Rattle.tables.specs.Table.{laid_words, Laid, Found, Standing};
 use crate::layout::{FIRST, LINE_SIZE, POSITIONS};
 use lines::clue::starts;
 use lists::{put_pair, wide};
-use refusals::{Answer, Refusal};
+use refusals::Refusal;
 
 // The cells of line l.
 fn line_length(l: usize, width: usize, height: usize) -> usize
@@ -38,7 +38,7 @@ fn lay_line(
     at: usize,
     first: usize,
     table: &mut [u32],
-) -> Answer
+) -> Result<usize, Refusal>
     requires sectioned { Sectioned words.now }
     requires standing { Standing (puzzle words.now) l at first }
     requires l_bound { (l < P.lines (puzzle words.now)) × (cells ≡ P.length_at (puzzle words.now) l) × (table_size ≤ length table.old) }
@@ -48,14 +48,19 @@ fn lay_line(
     let n = wide(words[at]);
     let to = put_pair(at as u32, first as u32, table, LINE_SIZE * l);
     let answer = starts(cells, &words[at + 1..at + 1 + 2 * n], &mut table[to..]);
-    let Answer::Accepted(_) = answer else {
-        return Answer::Refused(Refusal::LineTooShort(l));
+    let Ok(_) = answer else {
+        return Err(Refusal::LineTooShort(l));
     };
-    Answer::Accepted(n * wide(table[to]))
+    Ok(n * wide(table[to]))
 }
 
 // Lays the lines, columns and then rows, and answers the place where the cells begin; 6 at the first whose clue needs more than its length.
-pub fn lay_lines(words: &[u32], width: usize, height: usize, table: &mut [u32]) -> Answer
+pub fn lay_lines(
+    words: &[u32],
+    width: usize,
+    height: usize,
+    table: &mut [u32],
+) -> Result<usize, Refusal>
     requires sectioned { Sectioned words.now }
     requires width_value { (width ≡ P.width (puzzle words.now)) × (height ≡ P.height (puzzle words.now)) × (table_size ≤ length table.old) }
     ensures result_value { told result ≡ and_then (spaces (puzzle words.now)) (accepted (P.cells_at (puzzle words.now))) }
@@ -65,15 +70,12 @@ pub fn lay_lines(words: &[u32], width: usize, height: usize, table: &mut [u32]) 
     let mut first = 1;
     for l in 0..width + height {
         let cells = line_length(l, width, height);
-        let laid = lay_line(words, l, cells, at, first, table);
-        let Answer::Accepted(variables) = laid else {
-            return laid;
-        };
+        let variables = lay_line(words, l, cells, at, first, table)?;
         first += variables;
         let n = wide(words[at]);
         at = next_begin(at + 1 + 2 * n, l, width);
     }
-    Answer::Accepted(at)
+    Ok(at)
 }
 
 // Where a line stands: its own words in the table from `line` on, and those of its clue from `begin` to `end`.
