@@ -3,7 +3,7 @@ ghost use Rattle.std.specs.Prelude.{◌≡◌, cond, ℕ, ◌+◌, ◌*◌, ◌^
 ghost use Rattle.lists.specs.Wrote.{Wrote};
 ghost use Rattle.refusals.specs.Told.{told};
 ghost use Rattle.refusals.specs.Verdict.{accepted, and_then, passed, refuse};
-ghost use Rattle.lines.specs.Clue.{gap, min_space};
+ghost use Rattle.lines.specs.Clue.{gap, min_space, words};
 ghost use Rattle.puzzles.specs.Puzzle as P;
 ghost use Rattle.puzzles.specs.Checks.{puzzle, Sectioned, spaces};
 ghost use Rattle.puzzles.specs.Firsts.{first_at, positions_at};
@@ -86,27 +86,46 @@ pub struct Parts {
     pub end: usize,
 }
 
-// Line l, found through the table.
-pub fn find_line(words: &[u32], table: &[u32], l: usize) -> Parts
-    requires sectioned { Sectioned words.now × Laid (puzzle words.now) table.now }
-    requires l_bound { (l < P.lines (puzzle words.now)) × (table_size ≤ length table.now) }
-    ensures { Found words.now table.now l result }
-{
-    let line = LINE_SIZE * l;
-    let count = wide(table[line]);
-    let begin = count + 1;
-    let end = begin + 2 * wide(words[count]);
-    Parts { line, begin, end }
+// The words of a puzzle's three sections, with the table of their lines.
+#[derive(Clone, Copy)]
+pub struct Table<'a> {
+    pub words: &'a [u32],
+    pub lines: &'a [u32],
+    pub ghost sectioned: { Sectioned words.now },
+    pub ghost laid: { Laid (puzzle words.now) lines.now },
+    pub ghost long: { table_size ≤ length lines.now },
 }
 
-// The first variable behind those of line l.
-pub fn next_first(words: &[u32], table: &[u32], l: usize) -> usize
-    requires sectioned { Sectioned words.now × Laid (puzzle words.now) table.now }
-    requires l_bound { (l < P.lines (puzzle words.now)) × (table_size ≤ length table.now) }
-    ensures { result ≡ first_at (puzzle words.now) (l + 1) }
-{
-    let parts = find_line(words, table, l);
-    let line = parts.line;
-    let blocks = (parts.end - parts.begin) / 2;
-    wide(table[line + FIRST]) + blocks * wide(table[line + POSITIONS])
+impl<'a> Table<'a> {
+    // Line l, found through the table.
+    pub fn find_line(self, l: usize) -> Parts
+        requires { l < P.lines (puzzle self.words.now) }
+        ensures { Found self.entry.words.now self.entry.lines.now l result }
+    {
+        let line = LINE_SIZE * l;
+        let count = wide(self.lines[line]);
+        let begin = count + 1;
+        let end = begin + 2 * wide(self.words[count]);
+        Parts { line, begin, end }
+    }
+
+    // The words of line l's clue.
+    pub fn clue(self, l: usize) -> &'a [u32]
+        requires { l < P.lines (puzzle self.words.now) }
+        ensures { result.now ≡ words (P.clue_at (puzzle self.entry.words.now) l) }
+    {
+        let parts = self.find_line(l);
+        &self.words[parts.begin..parts.end]
+    }
+
+    // The first variable behind those of line l.
+    pub fn next_first(self, l: usize) -> usize
+        requires { l < P.lines (puzzle self.words.now) }
+        ensures { result ≡ first_at (puzzle self.entry.words.now) (l + 1) }
+    {
+        let parts = self.find_line(l);
+        let line = parts.line;
+        let blocks = (parts.end - parts.begin) / 2;
+        wide(self.lines[line + FIRST]) + blocks * wide(self.lines[line + POSITIONS])
+    }
 }
