@@ -1,5 +1,6 @@
 use mathlib.Core.Path.{ap, ◌∙◌}
 use native.Mathlib.Omega.{arith}
+use lib.ListN.{length}
 use borrow.Author.Tests.{le-ltb}
 use Rattle.refusals.specs.Told.{checked}
 use Rattle.refusals.proofs.Answering.{handed}
@@ -10,12 +11,12 @@ use Rattle.probes.proofs.read.check_probes.Goals as goal
 
 pub returns-in_err-end : goal.returns-in_err-end
 unfolding read_probes
-returns-in_err-end c = ap checked (handed _ c.from_residual.ensures.1) ∙ rw (le-ltb _ _ c.if-probe-gt1048576.false) (walked_refused _ _ _ c.in_err-end.ensures)
+returns-in_err-end c = ap checked (handed _ c.from_residual.ensures.1) ∙ rw (le-ltb 1048576 (length c.args.probe.now) (omega arith)) (walked_refused _ _ _ c.in_err-end.ensures)
 
 pub returns-then-end-probe : goal.returns-then-end-probe
 unfolding read_probes
-returns-then-end-probe c = rw (le-ltb _ _ c.if-probe-gt1048576.false) (walked_left _ _ (probes_only _ _ _ _) c.in_ok-end.ensures (omega (arith, c.if-end-probe.true)))
+returns-then-end-probe c = rw (le-ltb 1048576 (length c.args.probe.now) (omega arith)) (walked_left _ _ (probes_only _ _ _ _) c.in_ok-end.ensures (omega (arith, c.if-end-probe.true)))
 
 pub returns : goal.returns
 unfolding read_probes
-returns c = rw (le-ltb _ _ c.if-probe-gt1048576.false) (walked_done _ _ (probes_only _ _ _ _) c.in_ok-end.ensures (omega (arith, c.if-end-probe.false)))
+returns c = rw (le-ltb 1048576 (length c.args.probe.now) (omega arith)) (walked_done _ _ (probes_only _ _ _ _) c.in_ok-end.ensures (omega (arith, c.if-end-probe.false)))
