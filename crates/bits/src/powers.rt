@@ -4,15 +4,15 @@ ghost use Rattle.bits.specs.Bits.{powers, joined};
 ghost use Rattle.refusals.specs.Outcome.{Answers};
 ghost use Rattle.refusals.specs.Verdict.{passed};
 
-use refusals::{Answer, Refusal};
+use refusals::Refusal;
 
 // Lists the set bits as powers, lowest first.
-pub fn two_powers(mask: u32, out: &mut [u32]) -> Answer
+pub fn two_powers(mask: u32, out: &mut [u32]) -> Result<usize, Refusal>
     ensures { Answers passed (powers mask) out.old result out.new }
 {
     let need = u32::count_ones(mask) as usize;
     if out.len() < need {
-        return Answer::Refused(Refusal::OutputTooShort(need));
+        return Err(Refusal::OutputTooShort(need));
     }
     let mut rest = mask;
     let mut at = 0;
@@ -23,16 +23,12 @@ pub fn two_powers(mask: u32, out: &mut [u32]) -> Answer
         rest = next;
         at += 1;
     }
-    Answer::Accepted(at)
+    Ok(at)
 }
 
 // Joins words by or.
 pub fn from_two_powers(words: &[u32]) -> u32
     ensures { result ≡ joined words.now }
 {
-    let mut all = 0;
-    for i in 0..words.len() {
-        all |= words[i];
-    }
-    all
+    words.iter().fold(0, |all, &word| all | word)
 }

@@ -10,7 +10,7 @@ ghost use Rattle.dimacs.specs.Text.{text};
 use crate::count::{count_header, count_lines};
 use crate::write::{put_header, put_lines};
 use formulas::check::check_words;
-use refusals::{Answer, Refusal};
+use refusals::Refusal;
 
 // The first line, and a line per clause.
 fn put_text(variables: usize, clauses: usize, words: &[i32], out: &mut [u8]) -> usize
@@ -22,24 +22,26 @@ fn put_text(variables: usize, clauses: usize, words: &[i32], out: &mut [u8]) -> 
 }
 
 // The text, where there is room.
-fn write_text(variables: usize, words: &[i32], out: &mut [u8]) -> Answer
+fn write_text(variables: usize, words: &[i32], out: &mut [u8]) -> Result<usize, Refusal>
     requires { Formed words.now }
     ensures { Answers passed (text variables (clauses_in words.now)) out.old result out.new }
 {
     let size = count_lines(words);
     let need = count_header(variables, size.clauses) + size.bytes;
     if out.len() < need {
-        return Answer::Refused(Refusal::OutputTooShort(need));
+        return Err(Refusal::OutputTooShort(need));
     }
-    Answer::Accepted(put_text(variables, size.clauses, words, out))
+    Ok(put_text(variables, size.clauses, words, out))
 }
 
-pub fn dimacs(variables: usize, sections: usize, words: &[i32], out: &mut [u8]) -> Answer
+pub fn dimacs(
+    variables: usize,
+    sections: usize,
+    words: &[i32],
+    out: &mut [u8],
+) -> Result<usize, Refusal>
     ensures { Answers (word_checks variables sections words.now) (text variables (clauses_of variables sections words.now)) out.old result out.new }
 {
-    let checked = check_words(variables, sections, words);
-    let Answer::Accepted(_) = checked else {
-        return checked;
-    };
+    check_words(variables, sections, words)?;
     write_text(variables, words, out)
 }

@@ -32,8 +32,8 @@ fn count_clause(clause: &[i32]) -> usize
     ensures { result ≡ length (clause_text clause.now) }
 {
     let mut bytes = 0;
-    for k in 0..clause.len() {
-        bytes += count_literal(Literal::of_word(clause[k])) + 1;
+    for &word in clause {
+        bytes += count_literal(Literal::of_word(word)) + 1;
     }
     bytes + 2
 }
@@ -59,10 +59,7 @@ pub fn count_lines(words: &[i32]) -> Extent
         left -= 1;
         i += n;
     }
-    Extent {
-        clauses: clauses,
-        bytes: bytes,
-    }
+    Extent { clauses, bytes }
 }
 
 pub fn count_header(variables: usize, clauses: usize) -> usize

@@ -27,8 +27,8 @@ fn put_clause(clause: &[i32], out: &mut [u8], at: usize) -> usize
     ensures { Wrote (clause_text clause.now) out.old at out.new result }
 {
     let mut to = at;
-    for k in 0..clause.len() {
-        to = put_literal(Literal::of_word(clause[k]), out, to);
+    for &word in clause {
+        to = put_literal(Literal::of_word(word), out, to);
         out[to] = b' ';
         to += 1;
     }

@@ -122,7 +122,7 @@ pub topped_first : (line : List ℕ) → Topped line 0 0
 topped_first line = record { within = omega arith; below = λ k l. absurd (omega arith) }
 
 module _ {line : List ℕ} {most i : ℕ} (T : Topped line most i) where
-  topped_next : i < length line → {m : ℕ} → most ≤ m → get_or line i 0 ≤ m → Topped line m (i + 1)
+  pub topped_next : i < length line → {m : ℕ} → most ≤ m → get_or line i 0 ≤ m → Topped line m (i + 1)
   topped_next h {m} a b = record {
     within = omega arith;
     below = λ k l. elim (ℕ_discrete k i) [
@@ -130,12 +130,6 @@ module _ {line : List ℕ} {most i : ℕ} (T : Topped line most i) where
       | no e ↦ omega (arith, T.below k (omega arith))
     ];
   }
-
-  pub topped_below : i < length line → get_or line i 0 ≤ most → Topped line most (i + 1)
-  topped_below h b = topped_next h (omega arith) b
-
-  pub topped_above : i < length line → most < get_or line i 0 → Topped line (get_or line i 0) (i + 1)
-  topped_above h b = topped_next h (omega arith) (omega arith)
 
   pub topped_done : length line ≤ i → (k : ℕ) → k < length line → get_or line k 0 ≤ most
   topped_done h k l = T.below k (omega arith)

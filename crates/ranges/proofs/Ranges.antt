@@ -1,32 +1,39 @@
 -- The colour ranges, a block at a time and a colour at a time.
 use mathlib.Core.Path.{◌≡◌, refl, ap, ◌∙◌}
-use mathlib.Core.Bool.{Bool, true, false, cond}
 use mathlib.Core.List.{List, [], ◌∷◌}
 use Prim.Native.Nat.{ℕ, ◌+◌, ◌-◌, ◌≤◌, ◌<◌}
 use native.Mathlib.Omega.{arith}
-use lib.ListN.{length, drop, get_or}
+use lib.ListN.{length, drop}
 use borrow.Author.Tests.{eq-eqb, ne_eqb}
+use Rattle.std.specs.Prelude.{Option, Some, None, IfSome}
 use Rattle.lists.specs.Each.{each}
 use Rattle.lists.specs.Wrote.{Wrote}
 use Rattle.lists.proofs.Eaches.{each_length}
 use Rattle.lists.proofs.Emitting.{Emitting, emit_room}
+use Rattle.lines.specs.Arrangement.{block_at}
 use Rattle.lines.specs.Clue.{Run, end, blocks, gap, packed_from, packed, last_end, min_space, positions, of_color, range}
 use Rattle.lines.specs.Calls.{ranges_words}
+use Rattle.ranges.specs.Spanned.{spanned}
+use Rattle.ranges.specs.declared.range.Span.{Span}
 use Rattle.lines.proofs.ClueWords.{Walk, walk_first, walk_next, walk_low, walk_run, walk_end}
 
--- what the range becomes, where R are the runs still to come: `found` says whether the first one has been met
-pub shown : ℕ → Bool → ℕ → ℕ → List Run → List ℕ
-shown slack false s e R = range slack R
-shown slack true s e R = s ∷ (last_end e R + slack) ∷ []
+-- what the range becomes, where R are the runs still to come, and a span is that of those before
+pub shown : ℕ → Option Span → List Run → List ℕ
+shown slack None R = range slack R
+shown slack (Some span) R = span.start ∷ (last_end span.end R + slack) ∷ []
 
-pub record Spanning (clue : List ℕ) (k : ℕ) (found : Bool) (s e at c i : ℕ) : Type 0 where
-  pub walk : Walk clue at c i
-  pub low : e ≤ at
-  pub spans : (slack : ℕ) → range slack (of_color k (packed gap (blocks clue))) ≡ shown slack found s e (of_color k (packed_from gap at c (blocks (drop i clue))))
+-- the span ends by `at`
+abbrev Low : Option Span → ℕ → Type 0
+Low span at = IfSome span (λ s. s.end ≤ at)
 
-pub spanning_first : (clue : List ℕ) (k : ℕ) → Spanning clue k false 0 0 0 0 0
+pub record Spanning (clue : List ℕ) (k : ℕ) (span : Option Span) (at c b : ℕ) : Type 0 where
+  pub walk : Walk clue at c b
+  pub low : Low span at
+  pub spans : (slack : ℕ) → range slack (of_color k (packed gap (blocks clue))) ≡ shown slack span (of_color k (packed_from gap at c (drop b (blocks clue))))
+
+pub spanning_first : (clue : List ℕ) (k : ℕ) → Spanning clue k None 0 0 0
 unfolding shown packed
-spanning_first clue k = record { walk = walk_first clue; low = omega arith; spans = λ slack. refl }
+spanning_first clue k = record { walk = walk_first clue; low = tt; spans = λ slack. refl }
 
 of_next : (k : ℕ) (r : Run) (R : List Run) → r.color ≡ k → of_color k (r ∷ R) ≡ r ∷ of_color k R
 unfolding of_color
@@ -36,69 +43,73 @@ of_other : (k : ℕ) (r : Run) (R : List Run) → (r.color ≡ k → ⊥) → of
 unfolding of_color
 of_other k r R n = rw (ne_eqb _ _ n)
 
--- a first run of the colour, and a later one
-shown_first : (slack s e : ℕ) (r : Run) (R : List Run) → shown slack false s e (r ∷ R) ≡ shown slack true r.start (end r) R
-unfolding shown range
-shown_first slack s e r R = refl
+low_later : (span : Option Span) {at later : ℕ} → at ≤ later → Low span at → Low span later
+low_later None h l = tt
+low_later (Some s) h l = omega (arith, h, l)
 
-shown_later : (slack s e : ℕ) (r : Run) (R : List Run) → shown slack true s e (r ∷ R) ≡ shown slack true s (end r) R
-unfolding shown last_end
-shown_later slack s e r R = refl
+-- the span with one run more
+with_run : Option Span → Run → Span
+with_run None r = record { start = r.start; end = end r }
+with_run (Some s) r = record { start = s.start; end = end r }
 
-module _ {clue : List ℕ} {k : ℕ} {found : Bool} {s e at c i : ℕ} (S : Spanning clue k found s e at c i) where
-  module _ (h : i + 1 < length clue) {g : ℕ} (q : g ≡ gap c (get_or clue (i + 1) 0)) where
+shown_next : (slack : ℕ) (span : Option Span) (r : Run) (R : List Run) → shown slack span (r ∷ R) ≡ shown slack (Some (with_run span r)) R
+unfolding shown range last_end with_run
+shown_next slack None r R = refl
+shown_next slack (Some s) r R = refl
+
+module _ {clue : List ℕ} {k : ℕ} {span : Option Span} {at c b : ℕ} (S : Spanning clue k span at c b) where
+  module _ (h : b < length (blocks clue)) {size color g : ℕ} (s : size ≡ (block_at (blocks clue) b).size) (q : color ≡ (block_at (blocks clue) b).color) (e : g ≡ gap c color) where
     next : Run
-    next = record { start = at + g; size = get_or clue i 0; color = get_or clue (i + 1) 0 }
+    next = record { start = at + g; size = size; color = color }
 
     more : List Run
-    more = packed_from gap (at + g + get_or clue i 0) (get_or clue (i + 1) 0) (blocks (drop (i + 2) clue))
+    more = packed_from gap (at + g + size) color (drop (b + 1) (blocks clue))
 
-    split : packed_from gap at c (blocks (drop i clue)) ≡ next ∷ more
+    split : packed_from gap at c (drop b (blocks clue)) ≡ next ∷ more
     unfolding next more
-    split = walk_run S.walk h ∙ rw q
+    split = walk_run S.walk h s q ∙ rw e
 
-    pub spanning_walk : Walk clue (at + g + get_or clue i 0) (get_or clue (i + 1) 0) (i + 2)
-    spanning_walk = rw q (walk_next S.walk h)
+    pub spanning_walk : Walk clue (at + g + size) color (b + 1)
+    spanning_walk = rw e (walk_next S.walk h s q)
 
-    pub spanning_other : (get_or clue (i + 1) 0 ≡ k → ⊥) → Spanning clue k found s e (at + g + get_or clue i 0) (get_or clue (i + 1) 0) (i + 2)
+    pub spanning_other : (color ≡ k → ⊥) → Spanning clue k span (at + g + size) color (b + 1)
     unfolding next more
     spanning_other n = record {
       walk = spanning_walk;
-      low = omega (arith, S.low);
-      spans = λ slack. S.spans slack ∙ ap (λ (R : List Run). shown slack found s e R) (ap (λ (R : List Run). of_color k R) split ∙ of_other k next more n);
+      low = low_later span (omega arith) S.low;
+      spans = λ slack. S.spans slack ∙ ap (λ (R : List Run). shown slack span R) (ap (λ (R : List Run). of_color k R) split ∙ of_other k next more n);
     }
 
-    module _ (m : get_or clue (i + 1) 0 ≡ k) where
-      of_this : of_color k (packed_from gap at c (blocks (drop i clue))) ≡ next ∷ of_color k more
-      unfolding next
-      of_this = ap (λ (R : List Run). of_color k R) split ∙ of_next k next more m
+    spanning_met : color ≡ k → Spanning clue k (Some (with_run span next)) (at + g + size) color (b + 1)
+    unfolding next more with_run
+    spanning_met m = record {
+      walk = spanning_walk;
+      low = ends span;
+      spans = λ slack. S.spans slack ∙ ap (λ (R : List Run). shown slack span R) (ap (λ (R : List Run). of_color k R) split ∙ of_next k next more m) ∙ shown_next slack span next (of_color k more);
+    }
+      where
+        ends : (span : Option Span) → (with_run span next).end ≤ at + g + size
+        ends None = omega arith
+        ends (Some s) = omega arith
 
-      pub spanning_later : found ≡ true → Spanning clue k found s (at + g + get_or clue i 0) (at + g + get_or clue i 0) (get_or clue (i + 1) 0) (i + 2)
-      unfolding next more
-      spanning_later f = record {
-        walk = spanning_walk;
-        low = omega arith;
-        spans = λ slack. S.spans slack ∙ rw (of_this, f) (shown_later slack s e next (of_color k more));
-      }
+    pub spanning_found : span ≡ None → color ≡ k → Spanning clue k (Some (record { start = at + g; end = at + g + size })) (at + g + size) color (b + 1)
+    unfolding with_run next
+    spanning_found n m = rw n at (spanning_met m)
 
-      pub spanning_found : found ≡ false → Spanning clue k true (at + g) (at + g + get_or clue i 0) (at + g + get_or clue i 0) (get_or clue (i + 1) 0) (i + 2)
-      unfolding next more
-      spanning_found f = record {
-        walk = spanning_walk;
-        low = omega arith;
-        spans = λ slack. S.spans slack ∙ rw (of_this, f) (shown_first slack s e next (of_color k more));
-      }
+    pub spanning_later : {found : Span} → span ≡ Some found → color ≡ k → Spanning clue k (Some (record { start = found.start; end = at + g + size })) (at + g + size) color (b + 1)
+    unfolding with_run next
+    spanning_later n m = rw n at (spanning_met m)
 
-  pub spanning_done : length clue ≤ i + 1 → (slack : ℕ) → range slack (of_color k (packed gap (blocks clue))) ≡ cond found (s ∷ (e + slack) ∷ []) (0 ∷ 0 ∷ [])
+  pub spanning_done : drop b (blocks clue) ≡ [] → (slack : ℕ) → range slack (of_color k (packed gap (blocks clue))) ≡ spanned slack span
   unfolding of_color shown range last_end
-  spanning_done h slack = S.spans slack ∙ rw (walk_end S.walk h) (go found)
+  spanning_done h slack = S.spans slack ∙ rw (walk_end S.walk h) (go span)
     where
-      go : (b : Bool) → shown slack b s e [] ≡ cond b (s ∷ (e + slack) ∷ []) (0 ∷ 0 ∷ [])
-      go true = refl
-      go false = refl
+      go : (span : Option Span) → shown slack span [] ≡ spanned slack span
+      go None = refl
+      go (Some s) = refl
 
-  pub spanning_low : e ≤ min_space gap (blocks clue)
-  spanning_low = omega (arith, S.low, walk_low S.walk)
+  pub spanning_low : IfSome span (λ s. s.end ≤ min_space gap (blocks clue))
+  spanning_low = low_later span (walk_low S.walk) S.low
 
 -- ---- the loop over the colours
 

@@ -1,52 +1,45 @@
 // Colour ranges: from the first block's start up to where the last block can end.
-ghost use Rattle.std.specs.Prelude.{◌≡◌, cond, [], ◌∷◌, ℕ, ◌+◌, ◌≤◌, length};
+ghost use Rattle.std.specs.Prelude.{◌≡◌, ℕ, ◌+◌, ◌≤◌, length, IfSome};
 ghost use Rattle.lists.specs.Each.{each};
 ghost use Rattle.lists.specs.Wrote.{Wrote};
 ghost use Rattle.refusals.specs.Outcome.{Answers};
 ghost use Rattle.lines.specs.Clue as Clue;
 ghost use Rattle.lines.specs.Calls.{clue_checks, ranges_words};
+ghost use Rattle.ranges.specs.Spanned.{spanned};
 
-use lines::clue::{check_clue, positions_number};
+use lines::clue::{blocks, check_clue, positions_number};
 use lines::gap::gap;
 use lists::put_pair;
-use refusals::{Answer, Refusal};
+use refusals::Refusal;
 
-// The packed blocks of a colour, where there are any: the first one's start and the last one's end.
+// The packed blocks of a colour: the first one's start and the last one's end.
 #[derive(Clone, Copy)]
 struct Span {
-    found: bool,
     start: u32,
     end: u32,
 }
 
-fn color_span(clue: &[u32], color: u32) -> Span
+fn color_span(clue: &[u32], color: u32) -> Option<Span>
     requires { Clue.min_space Clue.gap (Clue.blocks clue.now) ≤ 64 }
-    ensures by_index { (slack : ℕ) → Clue.range slack (Clue.of_color color (Clue.packed Clue.gap (Clue.blocks clue.now))) ≡ cond result.found (result.start ∷ (result.end + slack) ∷ []) (0 ∷ 0 ∷ []) }
-    ensures end_bound { result.end ≤ Clue.min_space Clue.gap (Clue.blocks clue.now) }
+    ensures by_index { (slack : ℕ) → Clue.range slack (Clue.of_color color (Clue.packed Clue.gap (Clue.blocks clue.now))) ≡ spanned slack result }
+    ensures end_bound { IfSome result (λ span. span.end ≤ Clue.min_space Clue.gap (Clue.blocks clue.now)) }
 {
-    let mut found = false;
-    let mut start: u32 = 0;
-    let mut end: u32 = 0;
+    let mut span: Option<Span> = None;
     let mut at: u32 = 0;
     let mut last: u32 = 0;
-    let mut i = 0;
-    while i + 1 < clue.len() {
-        let next = clue[i + 1];
-        let from = at + gap(last, next);
-        at = from + clue[i];
+    for &[size, next] in blocks(clue) {
+        let start = at + gap(last, next);
+        at = start + size;
         last = next;
-        i += 2;
         if next != color {
             continue;
         }
-        end = at;
-        if found {
-            continue;
-        }
-        found = true;
-        start = from;
+        span = match span {
+            None => Some(Span { start, end: at }),
+            Some(found) => Some(Span { end: at, ..found }),
+        };
     }
-    Span { found, start, end }
+    span
 }
 
 // Writes the range of one colour.
@@ -55,11 +48,10 @@ fn put_range(clue: &[u32], color: u32, slack: u32, out: &mut [u32], at: usize) -
     requires at_in_bounds { at + 2 ≤ length out.old }
     ensures { Wrote (Clue.range slack (Clue.of_color color (Clue.packed Clue.gap (Clue.blocks clue.now)))) out.old at out.new result }
 {
-    let span = color_span(clue, color);
-    if span.found {
-        return put_pair(span.start, span.end + slack, out, at);
+    match color_span(clue, color) {
+        Some(span) => put_pair(span.start, span.end + slack, out, at),
+        None => put_pair(0, 0, out, at),
     }
-    put_pair(0, 0, out, at)
 }
 
 // Writes the ranges of the colours 1 to 31.
@@ -76,16 +68,13 @@ fn put_ranges(clue: &[u32], slack: u32, out: &mut [u32]) -> usize
 }
 
 // A pair of numbers for each colour 1 to 31, zeros where the clue has none.
-pub fn color_ranges(length: usize, clue: &[u32], out: &mut [u32]) -> Answer
+pub fn color_ranges(length: usize, clue: &[u32], out: &mut [u32]) -> Result<usize, Refusal>
     ensures { Answers (clue_checks length clue.now) (ranges_words length clue.now) out.old result out.new }
 {
-    let checked = check_clue(length, clue);
-    let Answer::Accepted(space) = checked else {
-        return checked;
-    };
+    let space = check_clue(length, clue)?;
     if out.len() < 62 {
-        return Answer::Refused(Refusal::OutputTooShort(62));
+        return Err(Refusal::OutputTooShort(62));
     }
     let slack = positions_number(length, space) - 1;
-    Answer::Accepted(put_ranges(clue, slack as u32, out))
+    Ok(put_ranges(clue, slack as u32, out))
 }

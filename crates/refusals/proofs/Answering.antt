@@ -88,6 +88,10 @@ module _ (n : ℕ) where
   accepted_test true k p e = let z : ◌≡◌ {A = ℕ} 0 1 = cc in absurd (omega arith)
   accepted_test false k p {m} e = (refl, cc)
 
+-- where it is a refusal, what follows from checks that pass does not matter
+pub refused_so : (why : Refusal) (u : Checks) (n : ℕ) → refusal why ≡ and_then u (accepted n) → {X : Type 0} → (refusal {A = ℕ} why ≡ and_then u (accepted n)) × (passed ≡ u → X)
+refused_so why u n t = (t, λ p. absurd (refused_fails why (refused_first n why u t) p))
+
 -- what an acceptance says of the checks before it
 module _ {A : Type 0} {a : A} where
   pub refuse_accepted : (b : Bool) (k p : ℕ) (v : Verdict A) → accepted a ≡ refuse b k p v → (b ≡ false) × (accepted a ≡ v)

@@ -11,41 +11,37 @@ ghost use Rattle.lines.specs.Calls.{byte_checks, line_checks, line_words};
 
 use lines::limits::off_size;
 use lists::put_pair;
-use refusals::{Answer, Refusal};
+use refusals::Refusal;
 
 // A byte that none exceeds: a walk with no way out, many bytes at a time.
 fn largest(line: &[u8]) -> u8
     ensures { (i : ℕ) → i < length line.now → get_or line.now i 0 ≤ result }
 {
     let mut most: u8 = 0;
-    for i in 0..line.len() {
-        let x = line[i];
-        if x <= most {
-            continue;
-        }
-        most = x;
+    for &x in line {
+        most = most.max(x);
     }
     most
 }
 
 // The first byte that is no colour.
-fn find_byte(line: &[u8]) -> Answer
+fn find_byte(line: &[u8]) -> Result<(), Refusal>
     ensures { checked result ≡ byte_checks line.now }
 {
-    for i in 0..line.len() {
-        if 31 < line[i] {
-            return Answer::Refused(Refusal::ColorTooLarge(i));
+    for (i, &color) in line.iter().enumerate() {
+        if 31 < color {
+            return Err(Refusal::ColorTooLarge(i));
         }
     }
-    Answer::Accepted(0)
+    Ok(())
 }
 
 // Looks for the first byte that is no colour only where there is one.
-pub fn check_bytes(line: &[u8]) -> Answer
+pub fn check_bytes(line: &[u8]) -> Result<(), Refusal>
     ensures { checked result ≡ byte_checks line.now }
 {
     if largest(line) <= 31 {
-        return Answer::Accepted(0);
+        return Ok(());
     }
     find_byte(line)
 }
@@ -70,10 +66,9 @@ pub fn count_words(line: &[u8]) -> usize
 {
     let mut count: u8 = 0;
     let mut color: u8 = 0;
-    for i in 0..line.len() {
-        let before = color;
-        color = line[i];
-        count += run_begins(before, color);
+    for &next in line {
+        count += run_begins(color, next);
+        color = next;
     }
     2 * count as usize
 }
@@ -126,19 +121,16 @@ fn from_line(line: &[u8], out: &mut [u32]) -> usize
 }
 
 // The maximal runs of one non-blank colour, as size and colour pairs.
-pub fn read_line(line: &[u8], out: &mut [u32]) -> Answer
+pub fn read_line(line: &[u8], out: &mut [u32]) -> Result<usize, Refusal>
     ensures { Answers (line_checks line.now) (line_words line.now) out.old result out.new }
 {
     if off_size(line.len()) {
-        return Answer::Refused(Refusal::Size(0));
+        return Err(Refusal::Size(0));
     }
-    let checked = check_bytes(line);
-    let Answer::Accepted(_) = checked else {
-        return checked;
-    };
+    check_bytes(line)?;
     let need = count_words(line);
     if out.len() < need {
-        return Answer::Refused(Refusal::OutputTooShort(need));
+        return Err(Refusal::OutputTooShort(need));
     }
-    Answer::Accepted(from_line(line, out))
+    Ok(from_line(line, out))
 }

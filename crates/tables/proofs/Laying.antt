@@ -10,16 +10,15 @@ use lib.Dec.{eqb, ltb}
 use lib.ListN.{length, take, drop, get_or, length-drop}
 use borrow.Author.Tests.{lt-ltb, le-ltb, ltb-true, ltb-false}
 use borrow.Rule.Slice.PartMut.{put_mid}
+use Rattle.std.specs.Prelude.{Result, Ok, Err}
 use Rattle.lists.specs.Wrote.{Wrote}
 use Rattle.lists.proofs.Tests.{cond_most}
 use Rattle.lists.proofs.Writing.{wrote_then, wrote_tail, wrote_there, wrote_before, wrote_at, wrote_kept, tail_is}
-use Rattle.refusals.specs.Verdict.{accepted, passed, refuse, and_then}
-use Rattle.refusals.specs.Told.{told}
+use Rattle.refusals.specs.Verdict.{Verdict, accepted, passed, refuse, and_then}
+use Rattle.refusals.specs.Told.{refusal}
 use Rattle.refusals.specs.Outcome.{Answers}
 use Rattle.refusals.specs.declared.Refusal.{Refusal}
-use Rattle.refusals.specs.declared.Answer.{Answer}
-use Rattle.refusals.specs.declared.Answer.TheVariants.{Accepted, Refused}
-use Rattle.refusals.proofs.Answering.{refused_fails, refused_so, refuse_accepted, told_refused, told_accepted}
+use Rattle.refusals.proofs.Answering.{refused_fails, refused_so, refuse_accepted, refused_test, accepted_test}
 use Rattle.refusals.proofs.Called.{refused_by, accepted_checks, accepted_wrote}
 use Rattle.lines.specs.Clue.{words, gap, min_space}
 use Rattle.lines.specs.Calls.{clue_checks, starts_words}
@@ -96,7 +95,7 @@ module _ (ws : List ℕ) (S : Sectioned ws) (l : ℕ) (h : l < lines (puzzle ws)
 
       -- the call that writes the starts into the tail of the table, behind where it begins and its first variable
       module _ (table : List ℕ) (long : table_size ≤ length table) {stored : List ℕ} {to : ℕ} (W : Wrote (at ∷ first ∷ []) table (line_size * l) stored to)
-          {n : ℕ} (e : n ≡ get_or ws at 0) {a : Answer} {tail : List ℕ}
+          {n : ℕ} (e : n ≡ get_or ws at 0) {tail : List ℕ} (a : Result ℕ Refusal)
           (A : Answers (clue_checks cells (take (at + 1 + 2 * n - (at + 1)) (drop (at + 1) ws))) (starts_words cells (take (at + 1 + 2 * n - (at + 1)) (drop (at + 1) ws)))
           (take (length stored - to) (drop to stored)) a tail) where
         called : Answers (clue_checks cells (words (clue_at z l))) (starts_words cells (words (clue_at z l))) (take (length stored - to) (drop to stored)) a tail
@@ -108,19 +107,22 @@ module _ (ws : List ℕ) (S : Sectioned ws) (l : ℕ) (h : l < lines (puzzle ws)
         tail_room : length (starts_words cells (words (clue_at z l))) ≤ length (take (length stored - to) (drop to stored))
         tail_room = rw (tail_is stored to) (omega (arith, room, stored_long, W.next_is, length-drop to stored, starts_size cells (clue_at z l)))
 
-        pub lay_refused : {why : Refusal} → a ≡ Refused why → cells < min_space gap (clue_at z l)
-        lay_refused r = elim (dec_lt cells (min_space gap (clue_at z l))) [
+        pub lay_refused : (why : Refusal) → a ≡ Err why → cells < min_space gap (clue_at z l)
+        lay_refused why r = elim (dec_lt cells (min_space gap (clue_at z l))) [
           | yes f ↦ f
-          | no f ↦ absurd (refused_fails (refused_by called r tail_room) r (sym (line_checks_lem ∙ rw (le-ltb cells (min_space gap (clue_at z l)) (omega arith)))))
+          | no f ↦ absurd (refused_fails why (refused_by (rw r at called) tail_room) (sym (line_checks_lem ∙ rw (le-ltb cells (min_space gap (clue_at z l)) (omega arith)))))
         ]
 
-        module _ {used : ℕ} (r : a ≡ Accepted used) where
+        module _ {used : ℕ} (r : a ≡ Ok used) where
+          accepted_called : Answers (clue_checks cells (words (clue_at z l))) (starts_words cells (words (clue_at z l))) (take (length stored - to) (drop to stored)) (Ok used) tail
+          accepted_called = rw r at called
+
           pub lay_fits : min_space gap (clue_at z l) ≤ cells
-          lay_fits = ltb-false _ _ (refuse_accepted (ltb cells (min_space gap (clue_at z l))) _ _ _ (accepted_checks called r ∙ line_checks_lem)).0
+          lay_fits = ltb-false _ _ (refuse_accepted (ltb cells (min_space gap (clue_at z l))) _ _ _ (accepted_checks accepted_called ∙ line_checks_lem)).0
 
           pub lay_wrote : Wrote (laid_words z l) table (line_size * l) (put_mid to (length stored - to) stored tail) (to + used)
           unfolding laid_words
-          lay_wrote = rw (← P.at_is, ← P.first_is, ← ce) (wrote_then (omega (arith, room.low)) W (wrote_tail (accepted_wrote called r)))
+          lay_wrote = rw (← P.at_is, ← P.first_is, ← ce) (wrote_then (omega (arith, room.low)) W (wrote_tail (accepted_wrote accepted_called)))
 
           pub lay_kept : length (put_mid to (length stored - to) stored tail) ≡ length table
           lay_kept = wrote_kept (omega (arith, room, line_size_lem z l)) lay_wrote
@@ -129,7 +131,7 @@ module _ (ws : List ℕ) (S : Sectioned ws) (l : ℕ) (h : l < lines (puzzle ws)
           pub lay_positions : get_or (put_mid to (length stored - to) stored tail) to 0 ≡ positions_at z l
           lay_positions =
               ap (λ (k : ℕ). get_or (put_mid to (length stored - to) stored tail) k 0) (omega arith)
-              ∙ wrote_at {at = to} (omega (arith, W.next_is, room.low, stored_long)) (wrote_tail (accepted_wrote called r)) 0 0 (omega (arith, starts_size cells (clue_at z l)))
+              ∙ wrote_at {at = to} (omega (arith, W.next_is, room.low, stored_long)) (wrote_tail (accepted_wrote accepted_called)) 0 0 (omega (arith, starts_size cells (clue_at z l)))
               ∙ starts_positions cells (clue_at z l)
               ∙ rw ce
 
@@ -156,33 +158,33 @@ unfolding length_at
 line_length_is z l we he e = e ∙ rw (we, he)
 
 -- what the call that lays line l told
-abbrev pub Told : Puzzle → ℕ → ℕ → Answer → Type 0
-Told z l cells a = told a ≡ refuse (ltb cells (min_space gap (clue_at z l))) 6 l (accepted (length (clue_at z l) * positions_at z l))
+abbrev pub Told : Puzzle → ℕ → ℕ → Verdict ℕ → Type 0
+Told z l cells v = v ≡ refuse (ltb cells (min_space gap (clue_at z l))) 6 l (accepted (length (clue_at z l) * positions_at z l))
 
 module _ (ws : List ℕ) (S : Sectioned ws) {table : List ℕ} {l at first : ℕ} (L : LayingLines (puzzle ws) table l at first) (h : l < lines (puzzle ws)) where
-  pub laying_short : {cells : ℕ} → cells ≡ length_at (puzzle ws) l → {a : Answer} {why : Refusal} → a ≡ Refused why → Told (puzzle ws) l cells a → {X : Type 0}
-      → (told a ≡ and_then (spaces (puzzle ws)) (accepted (cells_at (puzzle ws)))) × (passed ≡ spaces (puzzle ws) → X)
-  laying_short {cells} ce r t =
-      let s = told_refused (ltb cells (min_space gap (clue_at (puzzle ws) l))) _ _ _ r t in
+  pub laying_short : {cells : ℕ} → cells ≡ length_at (puzzle ws) l → (why : Refusal) → Told (puzzle ws) l cells (refusal why) → {X : Type 0}
+      → (refusal {A = ℕ} why ≡ and_then (spaces (puzzle ws)) (accepted (cells_at (puzzle ws)))) × (passed ≡ spaces (puzzle ws) → X)
+  laying_short {cells} ce why t =
+      let s = refused_test _ why (ltb cells (min_space gap (clue_at (puzzle ws) l))) _ _ t in
       let f : cells < min_space gap (clue_at (puzzle ws) l) = ltb-true _ _ s.0 in
-      refused_so r _ _ (s.1 ∙ rw (← spaces_short (puzzle ws) l h L.fit (omega arith)))
+      refused_so why _ _ (s.1 ∙ rw (← spaces_short (puzzle ws) l h L.fit (omega arith)))
 
-  pub laying_vars : (cells : ℕ) {a : Answer} {v : ℕ} → a ≡ Accepted v → Told (puzzle ws) l cells a → v ≤ 4160
-  laying_vars cells r t =
+  pub laying_vars : (cells : ℕ) {v : ℕ} → Told (puzzle ws) l cells (accepted v) → v ≤ 4160
+  laying_vars cells t =
       omega (
         arith,
-        (told_accepted (ltb cells (min_space gap (clue_at (puzzle ws) l))) _ _ _ r t).1,
+        (accepted_test _ (ltb cells (min_space gap (clue_at (puzzle ws) l))) _ _ t).1,
         line_vars (puzzle ws) l (line_fine ws S l h).few (size_within _ (line_fine ws S l h).sized),
       )
 
-  pub laying_next : table_size ≤ length table → {cells : ℕ} → cells ≡ length_at (puzzle ws) l → {a : Answer} {v : ℕ} → a ≡ Accepted v → Told (puzzle ws) l cells a → {table' : List ℕ}
+  pub laying_next : table_size ≤ length table → {cells : ℕ} → cells ≡ length_at (puzzle ws) l → {v : ℕ} → Told (puzzle ws) l cells (accepted v) → {table' : List ℕ}
       → (min_space gap (clue_at (puzzle ws) l) ≤ cells → (next : ℕ) × Wrote (laid_words (puzzle ws) l) table (line_size * l) table' next)
       → {n w at' : ℕ} → n ≡ get_or ws at 0 → w ≡ width (puzzle ws) → at' ≡ at + 1 + 2 * n + cond (eqb (l + 1) w) 1 0
       → LayingLines (puzzle ws) table' (l + 1) at' (first + v)
   unfolding first_at
-  laying_next long {cells} ce {v = v} r t wrote {n} {w = wide} {at' = at'} ne we ae =
+  laying_next long {cells} ce {v = v} t wrote {n} {w = wide} {at' = at'} ne we ae =
       let R = room ws S l h L.stands in
-      let s = told_accepted (ltb cells (min_space gap (clue_at (puzzle ws) l))) _ _ _ r t in
+      let s = accepted_test _ (ltb cells (min_space gap (clue_at (puzzle ws) l))) _ _ t in
       let fc : min_space gap (clue_at (puzzle ws) l) ≤ cells = ltb-false _ _ s.0 in
       let f : min_space gap (clue_at (puzzle ws) l) ≤ length_at (puzzle ws) l = omega arith in
       let ve = s.1 in
@@ -197,7 +199,7 @@ module _ (ws : List ℕ) (S : Sectioned ws) {table : List ℕ} {l at first : ℕ
           at_is = ae ∙ rw (we, m, L.stands.at_is) (sym (begin_next (puzzle ws) l h));
           at_most = omega (arith, R, cond_most (eqb (l + 1) wide));
           first_is = rw (e, ve, L.stands.first_is);
-          first_most = omega (arith, R, laying_vars cells r t);
+          first_most = omega (arith, R, laying_vars cells t);
         };
         fit = λ j g. elim (dec_lt j l) [ yes k ↦ L.fit j k | no k ↦ let q : j ≡ l = omega arith in rw q f ];
         laid = λ j g. elim (dec_lt j l) [

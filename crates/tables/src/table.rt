@@ -3,7 +3,7 @@ ghost use Rattle.std.specs.Prelude.{◌≡◌, cond, ℕ, ◌+◌, ◌*◌, ◌^
 ghost use Rattle.lists.specs.Wrote.{Wrote};
 ghost use Rattle.refusals.specs.Told.{told};
 ghost use Rattle.refusals.specs.Verdict.{accepted, and_then, passed, refuse};
-ghost use Rattle.lines.specs.Clue.{gap, min_space};
+ghost use Rattle.lines.specs.Clue.{gap, min_space, words};
 ghost use Rattle.puzzles.specs.Puzzle as P;
 ghost use Rattle.puzzles.specs.Checks.{puzzle, Sectioned, spaces};
 ghost use Rattle.puzzles.specs.Firsts.{first_at, positions_at};
@@ -13,7 +13,7 @@ ghost use Rattle.tables.specs.Table.{laid_words, Laid, Found, Standing};
 use crate::layout::{FIRST, LINE_SIZE, POSITIONS};
 use lines::clue::starts;
 use lists::{put_pair, wide};
-use refusals::{Answer, Refusal};
+use refusals::Refusal;
 
 // The cells of line l.
 fn line_length(l: usize, width: usize, height: usize) -> usize
@@ -38,7 +38,7 @@ fn lay_line(
     at: usize,
     first: usize,
     table: &mut [u32],
-) -> Answer
+) -> Result<usize, Refusal>
     requires sectioned { Sectioned words.now }
     requires standing { Standing (puzzle words.now) l at first }
     requires l_bound { (l < P.lines (puzzle words.now)) × (cells ≡ P.length_at (puzzle words.now) l) × (table_size ≤ length table.old) }
@@ -48,14 +48,19 @@ fn lay_line(
     let n = wide(words[at]);
     let to = put_pair(at as u32, first as u32, table, LINE_SIZE * l);
     let answer = starts(cells, &words[at + 1..at + 1 + 2 * n], &mut table[to..]);
-    let Answer::Accepted(_) = answer else {
-        return Answer::Refused(Refusal::LineTooShort(l));
+    let Ok(_) = answer else {
+        return Err(Refusal::LineTooShort(l));
     };
-    Answer::Accepted(n * wide(table[to]))
+    Ok(n * wide(table[to]))
 }
 
 // Lays the lines, columns and then rows, and answers the place where the cells begin; 6 at the first whose clue needs more than its length.
-pub fn lay_lines(words: &[u32], width: usize, height: usize, table: &mut [u32]) -> Answer
+pub fn lay_lines(
+    words: &[u32],
+    width: usize,
+    height: usize,
+    table: &mut [u32],
+) -> Result<usize, Refusal>
     requires sectioned { Sectioned words.now }
     requires width_value { (width ≡ P.width (puzzle words.now)) × (height ≡ P.height (puzzle words.now)) × (table_size ≤ length table.old) }
     ensures result_value { told result ≡ and_then (spaces (puzzle words.now)) (accepted (P.cells_at (puzzle words.now))) }
@@ -65,15 +70,12 @@ pub fn lay_lines(words: &[u32], width: usize, height: usize, table: &mut [u32]) 
     let mut first = 1;
     for l in 0..width + height {
         let cells = line_length(l, width, height);
-        let laid = lay_line(words, l, cells, at, first, table);
-        let Answer::Accepted(variables) = laid else {
-            return laid;
-        };
+        let variables = lay_line(words, l, cells, at, first, table)?;
         first += variables;
         let n = wide(words[at]);
         at = next_begin(at + 1 + 2 * n, l, width);
     }
-    Answer::Accepted(at)
+    Ok(at)
 }
 
 // Where a line stands: its own words in the table from `line` on, and those of its clue from `begin` to `end`.
@@ -84,27 +86,46 @@ pub struct Parts {
     pub end: usize,
 }
 
-// Line l, found through the table.
-pub fn find_line(words: &[u32], table: &[u32], l: usize) -> Parts
-    requires sectioned { Sectioned words.now × Laid (puzzle words.now) table.now }
-    requires l_bound { (l < P.lines (puzzle words.now)) × (table_size ≤ length table.now) }
-    ensures { Found words.now table.now l result }
-{
-    let line = LINE_SIZE * l;
-    let count = wide(table[line]);
-    let begin = count + 1;
-    let end = begin + 2 * wide(words[count]);
-    Parts { line, begin, end }
+// The words of a puzzle's three sections, with the table of their lines.
+#[derive(Clone, Copy)]
+pub struct Table<'a> {
+    pub words: &'a [u32],
+    pub lines: &'a [u32],
+    pub ghost sectioned: { Sectioned words.now },
+    pub ghost laid: { Laid (puzzle words.now) lines.now },
+    pub ghost long: { table_size ≤ length lines.now },
 }
 
-// The first variable behind those of line l.
-pub fn next_first(words: &[u32], table: &[u32], l: usize) -> usize
-    requires sectioned { Sectioned words.now × Laid (puzzle words.now) table.now }
-    requires l_bound { (l < P.lines (puzzle words.now)) × (table_size ≤ length table.now) }
-    ensures { result ≡ first_at (puzzle words.now) (l + 1) }
-{
-    let parts = find_line(words, table, l);
-    let line = parts.line;
-    let blocks = (parts.end - parts.begin) / 2;
-    wide(table[line + FIRST]) + blocks * wide(table[line + POSITIONS])
+impl<'a> Table<'a> {
+    // Line l, found through the table.
+    pub fn find_line(self, l: usize) -> Parts
+        requires { l < P.lines (puzzle self.words.now) }
+        ensures { Found self.entry.words.now self.entry.lines.now l result }
+    {
+        let line = LINE_SIZE * l;
+        let count = wide(self.lines[line]);
+        let begin = count + 1;
+        let end = begin + 2 * wide(self.words[count]);
+        Parts { line, begin, end }
+    }
+
+    // The words of line l's clue.
+    pub fn clue(self, l: usize) -> &'a [u32]
+        requires { l < P.lines (puzzle self.words.now) }
+        ensures { result.now ≡ words (P.clue_at (puzzle self.entry.words.now) l) }
+    {
+        let parts = self.find_line(l);
+        &self.words[parts.begin..parts.end]
+    }
+
+    // The first variable behind those of line l.
+    pub fn next_first(self, l: usize) -> usize
+        requires { l < P.lines (puzzle self.words.now) }
+        ensures { result ≡ first_at (puzzle self.entry.words.now) (l + 1) }
+    {
+        let parts = self.find_line(l);
+        let line = parts.line;
+        let blocks = (parts.end - parts.begin) / 2;
+        wide(self.lines[line + FIRST]) + blocks * wide(self.lines[line + POSITIONS])
+    }
 }

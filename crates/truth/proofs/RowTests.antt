@@ -9,12 +9,12 @@ use lib.ListN.{length}
 use Rattle.lists.specs.Each.{each, tab}
 use Rattle.lists.proofs.Eaches.{length_tab}
 use Rattle.refusals.specs.Verdict.{accepted, refused}
+use Rattle.refusals.specs.declared.Refusal.TheVariants.{FalseClause}
 use Rattle.literals.specs.Literals.{negative}
 use Rattle.sections.specs.Sections.{Clause, not_both, at_most_one, row}
 use Rattle.sections.proofs.Rows.{once_rows}
 use Rattle.truth.specs.Truth.{Assignment, literal_true, clause_true}
-use Rattle.truth.specs.Tested.{tested, said}
-use Rattle.truth.specs.declared.Tested.TheVariants.{Fine, False}
+use Rattle.truth.specs.Tested.{tested}
 use Rattle.truth.proofs.Testing.{tested_on, Testing, testing_first, testing_next, testing_stop, testing_done}
 
 pub negative_true : (β : Assignment) (v : ℕ) → 0 < v → literal_true β (negative v) ≡ not (β v)
@@ -57,7 +57,7 @@ module _ (β : Assignment) (x y n : ℕ) (hx : 0 < x) (hy : 0 < y) where
   unfolding clause_true
   off_clause j e = rw (negative_true β x hx, e)
 
-  pub row_off : (p : ℕ) → β x ≡ false → said (Fine (p + n)) ≡ tested β p (row x y n)
+  pub row_off : (p : ℕ) → β x ≡ false → accepted (p + n) ≡ tested β p (row x y n)
   unfolding row
   row_off p e = tab_true β n p (λ j. not_both x (y + j)) (λ j l. off_clause j e)
 
@@ -70,15 +70,15 @@ module _ (β : Assignment) (x y n : ℕ) (hx : 0 < x) (hy : 0 < y) where
     unfolding clause_true
     clause_is = rw (negative_true β x hx, on, negative_true β (y + j) (omega arith)) (or-false (not (β (y + j))))
 
-    pub row_stop : j < n → β (y + j) ≡ true → said (False (p + j)) ≡ tested β p (row x y n)
-    row_stop l e = testing_stop T l _ (one_false β (p + j) _ (clause_is ∙ rw e)) refl
+    pub row_stop : j < n → β (y + j) ≡ true → refused 15 (p + j) ≡ tested β p (row x y n)
+    row_stop l e = testing_stop T l (FalseClause (p + j)) (one_false β (p + j) _ (clause_is ∙ rw e))
 
     pub row_next : j < n → β (y + j) ≡ false → RowTesting β x y n p (j + 1)
     row_next l e =
         let q : p + j + 1 ≡ p + (j + 1) = omega arith in
-        rw q at (testing_next T l _ (one_true β (p + j) _ (clause_is ∙ rw e)) refl)
+        rw q at (testing_next T l (one_true β (p + j) _ (clause_is ∙ rw e)))
 
-  pub row_done : (p j : ℕ) → RowTesting β x y n p j → n ≤ j → said (Fine (p + n)) ≡ tested β p (row x y n)
+  pub row_done : (p j : ℕ) → RowTesting β x y n p j → n ≤ j → accepted (p + n) ≡ tested β p (row x y n)
   row_done p j T h =
       let e : p + j ≡ p + n = omega (arith, T.room, row_length x y n) in
       rw (← e) (testing_done T h)

@@ -8,12 +8,12 @@ use lib.ListN.{length, length-append}
 use Rattle.lists.specs.Each.{each}
 use Rattle.lists.proofs.Eaches.{rest, rest_first, rest_next, rest_done}
 use Rattle.refusals.specs.Verdict.{Verdict, accepted, refused, refuse}
-use Rattle.refusals.proofs.Answering.{refuse_accepted}
+use Rattle.refusals.specs.declared.Refusal.{Refusal}
+use Rattle.refusals.specs.Told.{refusal}
+use Rattle.refusals.proofs.Answering.{refusal_is, refuse_accepted}
 use Rattle.sections.specs.Sections.{Clause}
 use Rattle.truth.specs.Truth.{Assignment, clause_true}
-use Rattle.truth.specs.Tested.{tested, said, Countable}
-use Rattle.truth.specs.declared.Tested.{Tested}
-use Rattle.truth.specs.declared.Tested.TheVariants.{Fine, False}
+use Rattle.truth.specs.Tested.{tested, Countable}
 
 module _ (β : Assignment) where
   -- ---- one list after another
@@ -25,14 +25,14 @@ module _ (β : Assignment) where
       let r = refuse_accepted (not (clause_true β c)) 15 p _ e in
       rw r.0 (tested_on (p + 1) q a b r.1)
 
-  handed : (t : Bool) (p q : ℕ) (v w : Verdict ℕ) → (refused 15 q ≡ v → refused 15 q ≡ w) → refused 15 q ≡ refuse (not t) 15 p v → refused 15 q ≡ refuse (not t) 15 p w
-  handed true p q v w f e = f e
-  handed false p q v w f e = e
+  handed : (t : Bool) (m p q : ℕ) (v w : Verdict ℕ) → (refused m q ≡ v → refused m q ≡ w) → refused m q ≡ refuse (not t) 15 p v → refused m q ≡ refuse (not t) 15 p w
+  handed true m p q v w f e = f e
+  handed false m p q v w f e = e
 
-  pub tested_off : (p q : ℕ) (a b : List Clause) → refused 15 q ≡ tested β p a → refused 15 q ≡ tested β p (a ++ b)
+  pub tested_off : (m p q : ℕ) (a b : List Clause) → refused m q ≡ tested β p a → refused m q ≡ tested β p (a ++ b)
   unfolding tested
-  tested_off p q [] b e = absurd (let z : ◌≡◌ {A = ℕ} 0 1 = cc in omega arith)
-  tested_off p q (c ∷ a) b e = handed (clause_true β c) p q _ _ (tested_off (p + 1) q a b) e
+  tested_off m p q [] b e = absurd (let z : ◌≡◌ {A = ℕ} 0 1 = cc in omega arith)
+  tested_off m p q (c ∷ a) b e = handed (clause_true β c) m p q _ _ (tested_off m (p + 1) q a b) e
 
   -- the place behind clauses that are true
   pub tested_place : (p q : ℕ) (a : List Clause) → accepted q ≡ tested β p a → q ≡ p + length a
@@ -60,18 +60,15 @@ module _ {β : Assignment} {p₀ : ℕ} {cs : List Clause} {n : ℕ} {f : ℕ �
     pub testing_room : Countable p₀ cs → Countable p (f k)
     testing_room h = omega (arith, T.room, split)
 
-    module _ (t : Tested) (e : said t ≡ tested β p (f k)) where
-      pub testing_stop : {q : ℕ} → t ≡ False q → said t ≡ tested β p₀ cs
-      testing_stop {q} d = rw (d, T.same, rest_next k n f l) (tested_off β p q (f k) (rest (k + 1) n f) (rw d at e))
+    pub testing_stop : (why : Refusal) → refusal why ≡ tested β p (f k) → refusal why ≡ tested β p₀ cs
+    testing_stop why e = refusal_is why ∙ rw (T.same, rest_next k n f l) (tested_off β _ p _ (f k) (rest (k + 1) n f) (sym (refusal_is why) ∙ e))
 
-      pub testing_next : {q : ℕ} → t ≡ Fine q → Testing β p₀ cs n f q (k + 1)
-      testing_next {q} d =
-          let a : accepted q ≡ tested β p (f k) = rw d at e in
-          record {
-            same = T.same ∙ rw (rest_next k n f l) (tested_on β p q (f k) (rest (k + 1) n f) a);
-            room = omega (arith, T.room, split, tested_place β p q (f k) a);
-          }
+    pub testing_next : {q : ℕ} → accepted q ≡ tested β p (f k) → Testing β p₀ cs n f q (k + 1)
+    testing_next {q} e = record {
+      same = T.same ∙ rw (rest_next k n f l) (tested_on β p q (f k) (rest (k + 1) n f) e);
+      room = omega (arith, T.room, split, tested_place β p q (f k) e);
+    }
 
-  pub testing_done : n ≤ k → said (Fine p) ≡ tested β p₀ cs
+  pub testing_done : n ≤ k → accepted p ≡ tested β p₀ cs
   unfolding tested
   testing_done h = sym (T.same ∙ rw (rest_done k n f h))

@@ -1,20 +1,13 @@
 -- Clauses tested one after another: 15 at the first that is false.
 use Rattle.std.specs.Prelude.{not, List, [], ◌∷◌, ℕ, ◌+◌, ◌^◌, ◌<◌, length}
-use Rattle.refusals.specs.Verdict.{Verdict, accepted, refused, refuse}
+use Rattle.refusals.specs.Verdict.{Verdict, accepted, refuse}
 use Rattle.sections.specs.Sections.{Clause}
 use Rattle.truth.specs.Truth.{Assignment, clause_true}
-use Rattle.truth.specs.declared.Tested.{Tested}
-use Rattle.truth.specs.declared.Tested.TheVariants.{Fine, False}
 
 -- 15 at the first false clause, where the first clause has place p; and else the place behind the last
 unfoldable pub tested : Assignment → ℕ → List Clause → Verdict ℕ
 tested β p [] = accepted p
 tested β p (c ∷ cs) = refuse (not (clause_true β c)) 15 p (tested β (p + 1) cs)
-
--- what the code says of it
-abbrev pub said : Tested → Verdict ℕ
-said (Fine p) = accepted p
-said (False p) = refused 15 p
 
 -- the places are numbers that the code can count
 abbrev pub Countable : ℕ → List Clause → Type 0

@@ -1,29 +1,29 @@
 use lib.IntN.{pos}
 use native.Mathlib.Omega.{arith}
-use mathlib.Core.Path.{refl, ap, ◌∙◌}
+use mathlib.Core.Path.{ap, ◌∙◌}
 use lib.ListN.{get_or, length}
 use Rattle.literals.proofs.Words.{word_is}
 use Rattle.dimacs.specs.Text.{literal_text}
 use Rattle.dimacs.proofs.ClauseLines.{line_first, line_fits, line_next, line_done, clause_most}
 use Rattle.dimacs.proofs.count.count_clause.Goals as goal
 
-pub loop-k-init : goal.loop-k-init
-loop-k-init c = (line_first _, refl)
+pub loop-word-init : goal.loop-word-init
+loop-word-init c = line_first _
 
 pub of_word-requires : goal.of_word-requires
-of_word-requires c = rw (word_is (get_or c.args.clause.now c.loop-k.k (pos 0)) (omega arith)) (c.requires.0 _ (omega (arith, c.loop-k-test.true)))
+of_word-requires c = rw (word_is (get_or c.args.clause.now c.loop-word.word-index (pos 0)) (omega arith)) (c.requires.0 _ (omega (arith, c.loop-word-test.true)))
 
 pub overflow_add-bytes : goal.overflow_add-bytes
-overflow_add-bytes c = omega (arith, line_fits c.loop-k.invariant.0 (omega (arith, c.loop-k-test.true)) (c.count_literal.ensures ∙ ap (λ l. length (literal_text l)) (c.of_word.ensures ∙ word_is _ (omega arith))) c.requires.0, c.requires.1)
+overflow_add-bytes c = omega (arith, line_fits c.loop-word.invariant (omega (arith, c.loop-word-test.true)) (c.count_literal.ensures ∙ ap (λ l. length (literal_text l)) (c.of_word.ensures ∙ word_is _ (omega arith))) c.requires.0, c.requires.1)
 
-pub overflow_add-bytes-in-loop-k : goal.overflow_add-bytes-in-loop-k
-overflow_add-bytes-in-loop-k c = omega (arith, line_fits c.loop-k.invariant.0 (omega (arith, c.loop-k-test.true)) (c.count_literal.ensures ∙ ap (λ l. length (literal_text l)) (c.of_word.ensures ∙ word_is _ (omega arith))) c.requires.0, c.requires.1)
+pub overflow_add-bytes-in-loop-word : goal.overflow_add-bytes-in-loop-word
+overflow_add-bytes-in-loop-word c = omega (arith, line_fits c.loop-word.invariant (omega (arith, c.loop-word-test.true)) (c.count_literal.ensures ∙ ap (λ l. length (literal_text l)) (c.of_word.ensures ∙ word_is _ (omega arith))) c.requires.0, c.requires.1)
 
-pub loop-k-preserved : goal.loop-k-preserved
-loop-k-preserved c = (line_next c.loop-k.invariant.0 (omega (arith, c.loop-k-test.true)) (c.count_literal.ensures ∙ ap (λ l. length (literal_text l)) (c.of_word.ensures ∙ word_is _ (omega arith))), refl)
+pub loop-word-preserved : goal.loop-word-preserved
+loop-word-preserved c = line_next c.loop-word.invariant (omega (arith, c.loop-word-test.true)) (c.count_literal.ensures ∙ ap (λ l. length (literal_text l)) (c.of_word.ensures ∙ word_is _ (omega arith)))
 
 pub overflow_add-result : goal.overflow_add-result
-overflow_add-result c = omega (arith, line_done c.loop-k.invariant.0 (omega arith), clause_most c.args.clause.now c.requires.0, c.requires.1)
+overflow_add-result c = omega (arith, line_done c.loop-word.invariant (omega arith), clause_most c.args.clause.now c.requires.0, c.requires.1)
 
 pub returns : goal.returns
-returns c = line_done c.loop-k.invariant.0 (omega arith)
+returns c = line_done c.loop-word.invariant (omega arith)

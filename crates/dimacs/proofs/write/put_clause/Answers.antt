@@ -2,42 +2,42 @@ use Rattle.dimacs.proofs.ClauseLines.{filling_first, filling_kept, filling_next,
 use lib.ListN.{get_or, length-set}
 use lib.IntN.{pos}
 use native.Mathlib.Omega.{arith}
-use mathlib.Core.Path.{refl, ◌∙◌}
+use mathlib.Core.Path.{◌∙◌}
 use Rattle.literals.proofs.Words.{word_is}
 use Rattle.dimacs.proofs.write.put_clause.Goals as goal
 
-pub loop-k-init : goal.loop-k-init
-loop-k-init c = (filling_first _ _ _ c.requires.1, refl)
+pub loop-word-init : goal.loop-word-init
+loop-word-init c = filling_first _ _ _ c.requires.1
 
 pub of_word-requires : goal.of_word-requires
-of_word-requires c = rw (word_is (get_or c.args.clause.now c.loop-k.k (pos 0)) (omega arith)) (c.requires.0 _ (omega (arith, c.loop-k-test.true)))
+of_word-requires c = rw (word_is (get_or c.args.clause.now c.loop-word.word-index (pos 0)) (omega arith)) (c.requires.0 _ (omega (arith, c.loop-word-test.true)))
 
 pub put_literal-to-requires : goal.put_literal-to-requires
-put_literal-to-requires c = literal_room c.loop-k.invariant.0 (omega (arith, c.loop-k-test.true)) (c.of_word.ensures ∙ word_is _ (omega arith))
+put_literal-to-requires c = literal_room c.loop-word.invariant (omega (arith, c.loop-word-test.true)) (c.of_word.ensures ∙ word_is _ (omega arith))
 
 pub bounds-out-to : goal.bounds-out-to
-bounds-out-to c = space_room c.loop-k.invariant.0 (omega (arith, c.loop-k-test.true)) (c.of_word.ensures ∙ word_is _ (omega arith)) c.put_literal-to.ensures
+bounds-out-to c = space_room c.loop-word.invariant (omega (arith, c.loop-word-test.true)) (c.of_word.ensures ∙ word_is _ (omega arith)) c.put_literal-to.ensures
 
 pub overflow_add-to : goal.overflow_add-to
-overflow_add-to c = omega (arith, space_at c.loop-k.invariant.0 (omega (arith, c.loop-k-test.true)) (c.of_word.ensures ∙ word_is _ (omega arith)) c.put_literal-to.ensures)
+overflow_add-to c = omega (arith, space_at c.loop-word.invariant (omega (arith, c.loop-word-test.true)) (c.of_word.ensures ∙ word_is _ (omega arith)) c.put_literal-to.ensures)
 
-pub loop-k-preserved : goal.loop-k-preserved
-loop-k-preserved c = (filling_next c.loop-k.invariant.0 (omega (arith, c.loop-k-test.true)) (c.of_word.ensures ∙ word_is _ (omega arith)) c.put_literal-to.ensures, refl)
+pub loop-word-preserved : goal.loop-word-preserved
+loop-word-preserved c = filling_next c.loop-word.invariant (omega (arith, c.loop-word-test.true)) (c.of_word.ensures ∙ word_is _ (omega arith)) c.put_literal-to.ensures
 
 pub bounds-out-to-2 : goal.bounds-out-to-2
-bounds-out-to-2 c = omega (arith, end_room c.loop-k.invariant.0 (omega arith))
+bounds-out-to-2 c = omega (arith, end_room c.loop-word.invariant (omega arith))
 
 pub overflow_add-out : goal.overflow_add-out
-overflow_add-out c = omega (arith, end_room c.loop-k.invariant.0 (omega arith), filling_kept c.loop-k.invariant.0)
+overflow_add-out c = omega (arith, end_room c.loop-word.invariant (omega arith), filling_kept c.loop-word.invariant)
 
 pub bounds-out-to-3 : goal.bounds-out-to-3
-bounds-out-to-3 c = rw length-set (omega (arith, end_room c.loop-k.invariant.0 (omega arith)))
+bounds-out-to-3 c = rw length-set (omega (arith, end_room c.loop-word.invariant (omega arith)))
 
 pub overflow_add-result : goal.overflow_add-result
-overflow_add-result c = omega (arith, end_room c.loop-k.invariant.0 (omega arith), filling_kept c.loop-k.invariant.0)
+overflow_add-result c = omega (arith, end_room c.loop-word.invariant (omega arith), filling_kept c.loop-word.invariant)
 
 pub shape_of-out : goal.shape_of-out
-shape_of-out c = simp length-set (filling_kept c.loop-k.invariant.0)
+shape_of-out c = simp length-set (filling_kept c.loop-word.invariant)
 
 pub returns : goal.returns
-returns c = line_wrote c.loop-k.invariant.0 (omega arith)
+returns c = line_wrote c.loop-word.invariant (omega arith)

@@ -1,11 +1,5 @@
 use Rattle.dimacs.proofs.ClauseLines.{LineFilling}
-use lib.ListN.{length}
-use mathlib.Core.Path.{◌≡◌}
-use Prim.Native.Nat.{◌-◌}
 use Rattle.dimacs.proofs.write.put_clause.Given as goal
 
-abbrev pub invariant-loop-k : goal.invariant-loop-k
-invariant-loop-k l = LineFilling l.clause l.initial.out l.at l.out l.to l.k × (l.k-end ≡ length l.clause)
-
-abbrev pub decreases-loop-k : goal.decreases-loop-k
-decreases-loop-k l = length l.clause - l.k
+abbrev pub invariant-loop-word : goal.invariant-loop-word
+invariant-loop-word l = LineFilling l.clause l.initial.out l.at l.out l.to l.word-index

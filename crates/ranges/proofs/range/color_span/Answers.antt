@@ -1,28 +1,39 @@
 use native.Mathlib.Omega.{arith}
-use Rattle.lines.proofs.ClueWords.{walk_low}
+use Rattle.lines.proofs.ClueWords.{pair_within, pair_size, pair_color, pairs_done, walk_low}
 use Rattle.ranges.proofs.Ranges.{spanning_first, spanning_walk, spanning_other, spanning_later, spanning_found, spanning_done, spanning_low}
+use Rattle.ranges.proofs.range.color_span.Goals.{in-None, in-Some}
 use Rattle.ranges.proofs.range.color_span.Goals as goal
 
-pub loop-i-init : goal.loop-i-init
-loop-i-init c = spanning_first _ _
+-- in these answers `p` is: the loop's pairs are the clue's blocks
 
-pub overflow_add-from : goal.overflow_add-from
-overflow_add-from c = omega (arith, walk_low (spanning_walk c.loop-i.invariant c.loop-i-test.true c.gap.ensures.0))
+pub loop-size-init : goal.loop-size-init
+loop-size-init c = spanning_first _ _
+
+pub overflow_add-start : goal.overflow_add-start
+overflow_add-start c =
+    let p = c.blocks-size-items.ensures in
+    omega (arith, c.requires, walk_low (spanning_walk c.loop-size.invariant (pair_within _ p c.loop-size-test.true) (pair_size _ p c.loop-size-test.true) (pair_color _ p c.loop-size-test.true) c.gap.ensures.0))
 
 pub overflow_add-at : goal.overflow_add-at
-overflow_add-at c = omega (arith, walk_low (spanning_walk c.loop-i.invariant c.loop-i-test.true c.gap.ensures.0))
+overflow_add-at c =
+    let p = c.blocks-size-items.ensures in
+    omega (arith, c.requires, walk_low (spanning_walk c.loop-size.invariant (pair_within _ p c.loop-size-test.true) (pair_size _ p c.loop-size-test.true) (pair_color _ p c.loop-size-test.true) c.gap.ensures.0))
 
-pub loop-i-preserved-then-next-color : goal.loop-i-preserved-then-next-color
-loop-i-preserved-then-next-color c = spanning_other c.loop-i.invariant c.loop-i-test.true c.gap.ensures.0 c.if-next-color.true
+pub loop-size-preserved-then-next-color : goal.loop-size-preserved-then-next-color
+loop-size-preserved-then-next-color c =
+    let p = c.blocks-size-items.ensures in
+    spanning_other c.loop-size.invariant (pair_within _ p c.loop-size-test.true) (pair_size _ p c.loop-size-test.true) (pair_color _ p c.loop-size-test.true) c.gap.ensures.0 c.if-next-color.true
 
-pub loop-i-preserved-then-found : goal.loop-i-preserved-then-found
-loop-i-preserved-then-found c = spanning_later c.loop-i.invariant c.loop-i-test.true c.gap.ensures.0 c.if-next-color.false c.if-found.true
-
-pub loop-i-preserved : goal.loop-i-preserved
-loop-i-preserved c = spanning_found c.loop-i.invariant c.loop-i-test.true c.gap.ensures.0 c.if-next-color.false c.if-found.false
+pub loop-size-preserved : goal.loop-size-preserved
+loop-size-preserved c =
+    let p = c.blocks-size-items.ensures in
+    elim c.match-span.branch [
+      | in-None w ↦ rw w.span-is (spanning_found c.loop-size.invariant (pair_within _ p c.loop-size-test.true) (pair_size _ p c.loop-size-test.true) (pair_color _ p c.loop-size-test.true) c.gap.ensures.0 w.in-None.is c.if-next-color.false)
+      | in-Some w ↦ rw w.span-is (spanning_later c.loop-size.invariant (pair_within _ p c.loop-size-test.true) (pair_size _ p c.loop-size-test.true) (pair_color _ p c.loop-size-test.true) c.gap.ensures.0 w.in-Some.is c.if-next-color.false)
+    ]
 
 pub returns-clause-by_index : goal.returns-clause-by_index
-returns-clause-by_index c = spanning_done c.loop-i.invariant c.loop-i-test.false
+returns-clause-by_index c = spanning_done c.loop-size.invariant (pairs_done _ c.blocks-size-items.ensures c.loop-size-test.false)
 
 pub returns-clause-end_bound : goal.returns-clause-end_bound
-returns-clause-end_bound c = spanning_low c.loop-i.invariant
+returns-clause-end_bound c = spanning_low c.loop-size.invariant

@@ -1,17 +1,12 @@
-use mathlib.Core.Path.{refl}
-use native.Mathlib.Omega.{arith}
-use Rattle.lines.proofs.Checks.{topped_first, topped_below, topped_above, topped_done}
-use borrow.Author.Rules.{rules}
+use Rattle.std.proofs.Math.Nat.{le-max_left, le-max_right}
+use Rattle.lines.proofs.Checks.{topped_first, topped_next, topped_done}
 use Rattle.runs.proofs.line.largest.Goals as goal
 
-pub loop-i-init : goal.loop-i-init
-loop-i-init c = (refl, topped_first _)
+pub loop-x-init : goal.loop-x-init
+loop-x-init c = topped_first _
 
-pub loop-i-preserved-then-x-most : goal.loop-i-preserved-then-x-most
-loop-i-preserved-then-x-most c = (search rules, topped_below c.loop-i.invariant.1 (omega arith) (omega arith))
-
-pub loop-i-preserved : goal.loop-i-preserved
-loop-i-preserved c = (search rules, topped_above c.loop-i.invariant.1 (omega arith) (omega arith))
+pub loop-x-preserved : goal.loop-x-preserved
+loop-x-preserved c = rw c.max-most.ensures (topped_next c.loop-x.invariant c.loop-x-test.true (le-max_left _ _) (le-max_right _ _))
 
 pub returns : goal.returns
-returns c = topped_done c.loop-i.invariant.1 (omega arith)
+returns c = topped_done c.loop-x.invariant c.loop-x-test.false

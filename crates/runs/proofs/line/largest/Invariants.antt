@@ -1,11 +1,5 @@
-use mathlib.Core.Path.{◌≡◌}
-use Prim.Native.Nat.{◌-◌}
-use lib.ListN.{length}
 use Rattle.lines.proofs.Checks.{Topped}
 use Rattle.runs.proofs.line.largest.Given as goal
 
-abbrev pub invariant-loop-i : goal.invariant-loop-i
-invariant-loop-i l = (l.i-end ≡ length l.line) × Topped l.line l.most l.i
-
-abbrev pub decreases-loop-i : goal.decreases-loop-i
-decreases-loop-i l = length l.line - l.i
+abbrev pub invariant-loop-x : goal.invariant-loop-x
+invariant-loop-x l = Topped l.line l.most l.x-index

@@ -1,4 +1,4 @@
-use Rattle.tables.proofs.Laying.{line_fine, lay_kept, lay_fits, lay_wrote, lay_positions, line_vars, Room, room, lay_refused}
+use Rattle.tables.proofs.Laying.{line_fine, lay_kept, lay_fits, lay_wrote, lay_positions, line_vars, room, lay_refused}
 use Rattle.puzzles.specs.Firsts.{positions_at}
 use Rattle.lines.proofs.Checks.{size_within}
 use Rattle.refusals.specs.Verdict.{accepted}
@@ -98,12 +98,12 @@ slice_bounds-starts-start-2 c =
 
 pub returns-in_default-clause-result_value : goal.returns-in_default-clause-result_value
 returns-in_default-clause-result_value c =
-    let short = lay_refused _ c.requires.sectioned _ c.requires.l_bound.0 {at = c.args.at} {first = c.args.first} c.requires.standing c.requires.l_bound.1 _ c.requires.l_bound.2 c.put_pair-to.ensures c.wide-n.ensures c.starts-answer.ensures c.in_default.is in
+    let short = lay_refused _ c.requires.sectioned _ c.requires.l_bound.0 {at = c.args.at} {first = c.args.first} c.requires.standing c.requires.l_bound.1 _ c.requires.l_bound.2 c.put_pair-to.ensures c.wide-n.ensures _ c.starts-answer.ensures _ c.in_default.is in
     rw (lt-ltb _ _ short)
 
 pub returns-in_default-clause-by_index : goal.returns-in_default-clause-by_index
 returns-in_default-clause-by_index c =
-    let short = lay_refused _ c.requires.sectioned _ c.requires.l_bound.0 {at = c.args.at} {first = c.args.first} c.requires.standing c.requires.l_bound.1 _ c.requires.l_bound.2 c.put_pair-to.ensures c.wide-n.ensures c.starts-answer.ensures c.in_default.is in
+    let short = lay_refused _ c.requires.sectioned _ c.requires.l_bound.0 {at = c.args.at} {first = c.args.first} c.requires.standing c.requires.l_bound.1 _ c.requires.l_bound.2 c.put_pair-to.ensures c.wide-n.ensures _ c.starts-answer.ensures _ c.in_default.is in
     λ f. absurd (omega (arith, short, f))
 
 pub offset_bounds-table-to-2 : goal.offset_bounds-table-to-2
@@ -114,20 +114,20 @@ offset_bounds-table-to-2 c =
 pub bounds-table-to : goal.bounds-table-to
 bounds-table-to c =
     let room_is = room _ c.requires.sectioned _ c.requires.l_bound.0 {at = c.args.at} {first = c.args.first} c.requires.standing in
-    omega (arith, room_is, c.put_pair-to.ensures, c.requires.l_bound, lay_kept _ c.requires.sectioned _ c.requires.l_bound.0 {at = c.args.at} {first = c.args.first} c.requires.standing c.requires.l_bound.1 _ c.requires.l_bound.2 c.put_pair-to.ensures c.wide-n.ensures c.starts-answer.ensures c.in-Accepted.is)
+    omega (arith, room_is, c.put_pair-to.ensures, c.requires.l_bound, lay_kept _ c.requires.sectioned _ c.requires.l_bound.0 {at = c.args.at} {first = c.args.first} c.requires.standing c.requires.l_bound.1 _ c.requires.l_bound.2 c.put_pair-to.ensures c.wide-n.ensures _ c.starts-answer.ensures c.in-Ok.is)
 
 pub overflow_mul-result : goal.overflow_mul-result
 overflow_mul-result c =
     let room_is = room _ c.requires.sectioned _ c.requires.l_bound.0 {at = c.args.at} {first = c.args.first} c.requires.standing in
-    let vars : (c.wide-n.result * c.wide.result) ≡ length (clue_at (puzzle c.args.words.now) c.args.l) * positions_at (puzzle c.args.words.now) c.args.l = ap₂ ◌*◌ (c.wide-n.ensures ∙ room_is.count_is) (c.wide.ensures ∙ lay_positions _ c.requires.sectioned _ c.requires.l_bound.0 {at = c.args.at} {first = c.args.first} c.requires.standing c.requires.l_bound.1 _ c.requires.l_bound.2 c.put_pair-to.ensures c.wide-n.ensures c.starts-answer.ensures c.in-Accepted.is) in
+    let vars : (c.wide-n.result * c.wide.result) ≡ length (clue_at (puzzle c.args.words.now) c.args.l) * positions_at (puzzle c.args.words.now) c.args.l = ap₂ ◌*◌ (c.wide-n.ensures ∙ room_is.count_is) (c.wide.ensures ∙ lay_positions _ c.requires.sectioned _ c.requires.l_bound.0 {at = c.args.at} {first = c.args.first} c.requires.standing c.requires.l_bound.1 _ c.requires.l_bound.2 c.put_pair-to.ensures c.wide-n.ensures _ c.starts-answer.ensures c.in-Ok.is) in
     omega (arith, vars, line_vars (puzzle c.args.words.now) c.args.l room_is.few (size_within _ (line_fine _ c.requires.sectioned _ c.requires.l_bound.0).sized))
 
 pub returns-clause-result_value : goal.returns-clause-result_value
 returns-clause-result_value c =
     let room_is = room _ c.requires.sectioned _ c.requires.l_bound.0 {at = c.args.at} {first = c.args.first} c.requires.standing in
-    let vars : (c.wide-n.result * c.wide.result) ≡ length (clue_at (puzzle c.args.words.now) c.args.l) * positions_at (puzzle c.args.words.now) c.args.l = ap₂ ◌*◌ (c.wide-n.ensures ∙ room_is.count_is) (c.wide.ensures ∙ lay_positions _ c.requires.sectioned _ c.requires.l_bound.0 {at = c.args.at} {first = c.args.first} c.requires.standing c.requires.l_bound.1 _ c.requires.l_bound.2 c.put_pair-to.ensures c.wide-n.ensures c.starts-answer.ensures c.in-Accepted.is) in
-    let fits = lay_fits _ c.requires.sectioned _ c.requires.l_bound.0 {at = c.args.at} {first = c.args.first} c.requires.standing c.requires.l_bound.1 _ c.requires.l_bound.2 c.put_pair-to.ensures c.wide-n.ensures c.starts-answer.ensures c.in-Accepted.is in
+    let vars : (c.wide-n.result * c.wide.result) ≡ length (clue_at (puzzle c.args.words.now) c.args.l) * positions_at (puzzle c.args.words.now) c.args.l = ap₂ ◌*◌ (c.wide-n.ensures ∙ room_is.count_is) (c.wide.ensures ∙ lay_positions _ c.requires.sectioned _ c.requires.l_bound.0 {at = c.args.at} {first = c.args.first} c.requires.standing c.requires.l_bound.1 _ c.requires.l_bound.2 c.put_pair-to.ensures c.wide-n.ensures _ c.starts-answer.ensures c.in-Ok.is) in
+    let fits = lay_fits _ c.requires.sectioned _ c.requires.l_bound.0 {at = c.args.at} {first = c.args.first} c.requires.standing c.requires.l_bound.1 _ c.requires.l_bound.2 c.put_pair-to.ensures c.wide-n.ensures _ c.starts-answer.ensures c.in-Ok.is in
     rw (le-ltb _ _ fits) (ap accepted vars)
 
 pub returns-clause-by_index : goal.returns-clause-by_index
-returns-clause-by_index c = λ f. (_, lay_wrote _ c.requires.sectioned _ c.requires.l_bound.0 {at = c.args.at} {first = c.args.first} c.requires.standing c.requires.l_bound.1 _ c.requires.l_bound.2 c.put_pair-to.ensures c.wide-n.ensures c.starts-answer.ensures c.in-Accepted.is)
+returns-clause-by_index c = λ f. (_, lay_wrote _ c.requires.sectioned _ c.requires.l_bound.0 {at = c.args.at} {first = c.args.first} c.requires.standing c.requires.l_bound.1 _ c.requires.l_bound.2 c.put_pair-to.ensures c.wide-n.ensures _ c.starts-answer.ensures c.in-Ok.is)

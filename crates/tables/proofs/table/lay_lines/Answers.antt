@@ -1,11 +1,13 @@
-use Rattle.tables.proofs.Laying.{Room, room, line_length_is, laying_first, laying_short, laying_vars, laying_next, laying_done, laying_laid}
+use Rattle.refusals.specs.Told.{told}
+use Rattle.refusals.proofs.Answering.{handed}
+use Rattle.tables.proofs.Laying.{room, line_length_is, laying_first, laying_short, laying_vars, laying_next, laying_done, laying_laid}
 use Rattle.puzzles.proofs.Accepting.{walked_sections, size_some}
 use Rattle.lines.proofs.Checks.{size_within}
 use Rattle.puzzles.specs.Checks.{puzzle}
 use Rattle.puzzles.specs.Puzzle as P
 use Prim.Native.Nat.{◌<◌}
 use native.Mathlib.Omega.{arith}
-use mathlib.Core.Path.{◌≡◌, refl, ◌∙◌}
+use mathlib.Core.Path.{refl, ap, ◌∙◌}
 use Rattle.tables.proofs.table.lay_lines.Goals as goal
 
 pub overflow_add-l-end : goal.overflow_add-l-end
@@ -14,33 +16,33 @@ overflow_add-l-end c = omega (arith, c.requires.width_value, size_within (P.widt
 pub loop-l-init : goal.loop-l-init
 loop-l-init c = (omega (arith, c.requires.width_value), (refl, laying_first _ _ (size_some _ (walked_sections 0 c.args.words.now c.requires.sectioned).fine.columns.0)))
 
-pub lay_line-laid-requires-clause-sectioned : goal.lay_line-laid-requires-clause-sectioned
-lay_line-laid-requires-clause-sectioned c = c.requires.sectioned
+pub lay_line-requires-clause-sectioned : goal.lay_line-requires-clause-sectioned
+lay_line-requires-clause-sectioned c = c.requires.sectioned
 
-pub lay_line-laid-requires-clause-standing : goal.lay_line-laid-requires-clause-standing
-lay_line-laid-requires-clause-standing c = c.loop-l.invariant.1.1.stands
+pub lay_line-requires-clause-standing : goal.lay_line-requires-clause-standing
+lay_line-requires-clause-standing c = c.loop-l.invariant.1.1.stands
 
-pub lay_line-laid-requires-clause-l_bound : goal.lay_line-laid-requires-clause-l_bound
-lay_line-laid-requires-clause-l_bound c =
+pub lay_line-requires-clause-l_bound : goal.lay_line-requires-clause-l_bound
+lay_line-requires-clause-l_bound c =
     let in_line : c.loop-l.l < P.lines (puzzle c.args.words.now) = omega (arith, c.loop-l.invariant.0, c.loop-l-test.true) in
     let cells_are = line_length_is (puzzle c.args.words.now) _ c.requires.width_value.0 c.requires.width_value.1 c.line_length-cells.ensures in
     (in_line, cells_are, omega (arith, c.loop-l.invariant.1.0, c.requires.width_value))
 
-pub shape_of-table-in_default : goal.shape_of-table-in_default
-shape_of-table-in_default c = c.lay_line-laid.auto.table ∙ c.loop-l.invariant.1.0
+pub shape_of-table-in_err-variables : goal.shape_of-table-in_err-variables
+shape_of-table-in_err-variables c = c.lay_line.auto.table ∙ c.loop-l.invariant.1.0
 
-pub returns-in_default : goal.returns-in_default
-returns-in_default c =
+pub returns-in_err-variables : goal.returns-in_err-variables
+returns-in_err-variables c =
     let in_line : c.loop-l.l < P.lines (puzzle c.args.words.now) = omega (arith, c.loop-l.invariant.0, c.loop-l-test.true) in
     let cells_are = line_length_is (puzzle c.args.words.now) _ c.requires.width_value.0 c.requires.width_value.1 c.line_length-cells.ensures in
-    let short = laying_short _ c.requires.sectioned c.loop-l.invariant.1.1 in_line cells_are c.in_default.is c.lay_line-laid.ensures.result_value in
-    record { result_value = short.0; laid = short.1 }
+    let short = laying_short _ c.requires.sectioned c.loop-l.invariant.1.1 in_line cells_are _ c.in_err-variables.ensures.result_value in
+    record { result_value = ap told (handed c.from_residual.result c.from_residual.ensures.1) ∙ short.0; laid = short.1 }
 
 pub overflow_add-first : goal.overflow_add-first
 overflow_add-first c =
     let in_line : c.loop-l.l < P.lines (puzzle c.args.words.now) = omega (arith, c.loop-l.invariant.0, c.loop-l-test.true) in
     let room_is = room _ c.requires.sectioned _ in_line c.loop-l.invariant.1.1.stands in
-    omega (arith, room_is, laying_vars _ c.requires.sectioned c.loop-l.invariant.1.1 in_line _ c.in-Accepted.is c.lay_line-laid.ensures.result_value)
+    omega (arith, room_is, laying_vars _ c.requires.sectioned c.loop-l.invariant.1.1 in_line _ c.in_ok-variables.ensures.result_value)
 
 pub offset_bounds-words-at : goal.offset_bounds-words-at
 offset_bounds-words-at c =
@@ -88,7 +90,7 @@ pub loop-l-preserved : goal.loop-l-preserved
 loop-l-preserved c =
     let in_line : c.loop-l.l < P.lines (puzzle c.args.words.now) = omega (arith, c.loop-l.invariant.0, c.loop-l-test.true) in
     let cells_are = line_length_is (puzzle c.args.words.now) _ c.requires.width_value.0 c.requires.width_value.1 c.line_length-cells.ensures in
-    (c.loop-l.invariant.0, (c.lay_line-laid.auto.table ∙ c.loop-l.invariant.1.0, laying_next _ c.requires.sectioned c.loop-l.invariant.1.1 in_line (omega (arith, c.loop-l.invariant.1.0, c.requires.width_value)) cells_are c.in-Accepted.is c.lay_line-laid.ensures.result_value c.lay_line-laid.ensures.by_index c.wide-n.ensures c.requires.width_value.0 c.next_begin-at.ensures))
+    (c.loop-l.invariant.0, (c.lay_line.auto.table ∙ c.loop-l.invariant.1.0, laying_next _ c.requires.sectioned c.loop-l.invariant.1.1 in_line (omega (arith, c.loop-l.invariant.1.0, c.requires.width_value)) cells_are c.in_ok-variables.ensures.result_value c.in_ok-variables.ensures.by_index c.wide-n.ensures c.requires.width_value.0 c.next_begin-at.ensures))
 
 pub shape_of-table : goal.shape_of-table
 shape_of-table c = c.loop-l.invariant.1.0
