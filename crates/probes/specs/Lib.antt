@@ -1,3 +1,4 @@
 pub mod Probes
 pub mod Words
 pub mod Stops
+pub mod Onward

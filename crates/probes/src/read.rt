@@ -1,63 +1,63 @@
-// The readers of probe words. Each gets the words that are left and the place where they begin, and answers the place behind what it read.
+// The readers of probe words.
 // A count is any word: one that promises more than is there ends at the number of words.
 ghost use Rattle.std.specs.Prelude.{◌≡◌, ◌+◌, ◌^◌, ◌<◌, length};
 ghost use Rattle.refusals.specs.Told.{checked, told};
-ghost use Rattle.refusals.specs.Walk.{outcome, times};
-ghost use Rattle.probes.specs.Probes.{read_claim, listed, is_color, read_probe, read_probes, checks_on};
+ghost use Rattle.refusals.specs.Walk.{outcome};
+ghost use Rattle.probes.specs.Probes.{Claim, Probe, read_claim, listed, is_color, read_probe, checks_on};
+ghost use Rattle.probes.specs.Onward.{claim_onward, probe_onward};
 
 use bits::mask::has;
 use lists::wide;
-use refusals::{Answer, Refusal};
+use refusals::Refusal;
+use walks::{Reads, read_times};
 
-fn read_claim(width: usize, height: usize, part: &[u32], at: usize) -> Answer
-    requires { at + length part.now < 2 ^ 63 }
-    ensures { told result ≡ outcome (read_claim width height at part.now) }
-{
-    if part.len() == 0 {
-        return Answer::Refused(Refusal::WordMissing(at));
-    }
-    if width <= wide(part[0]) {
-        return Answer::Refused(Refusal::OffGrid(at));
-    }
-    if part.len() == 1 {
-        return Answer::Refused(Refusal::WordMissing(at + 1));
-    }
-    if height <= wide(part[1]) {
-        return Answer::Refused(Refusal::OffGrid(at + 1));
-    }
-    if part.len() == 2 {
-        return Answer::Refused(Refusal::WordMissing(at + 2));
-    }
-    if 31 < wide(part[2]) {
-        return Answer::Refused(Refusal::ColorTooLarge(at + 2));
-    }
-    Answer::Accepted(at + 3)
+#[derive(Clone, Copy)]
+struct Claim {
+    width: usize,
+    height: usize,
 }
 
-fn read_claims(n: usize, width: usize, height: usize, part: &[u32], at: usize) -> Answer
-    requires { at + length part.now < 2 ^ 63 }
-    ensures { told result ≡ outcome (times n (read_claim width height) at part.now) }
-{
-    let mut i = 0;
-    for k in 0..n {
-        let read = read_claim(width, height, &part[i..], at + i);
-        let Answer::Accepted(next) = read else {
-            return read;
+impl Reads for Claim {
+    type Word = u32;
+
+    ghost item = { Claim };
+
+    ghost walk = { λ c. read_claim c.width c.height };
+
+    ghost onward = { λ c. claim_onward c.width c.height };
+
+    fn read(self, part: &[u32], at: usize) -> Result<usize, Refusal> {
+        let Some((&x, rest)) = part.split_first() else {
+            return Err(Refusal::WordMissing(at));
         };
-        i = next - at;
+        if self.width <= wide(x) {
+            return Err(Refusal::OffGrid(at));
+        }
+        let Some((&y, rest)) = rest.split_first() else {
+            return Err(Refusal::WordMissing(at + 1));
+        };
+        if self.height <= wide(y) {
+            return Err(Refusal::OffGrid(at + 1));
+        }
+        let Some((&color, _)) = rest.split_first() else {
+            return Err(Refusal::WordMissing(at + 2));
+        };
+        if 31 < color {
+            return Err(Refusal::ColorTooLarge(at + 2));
+        }
+        Ok(at + 3)
     }
-    Answer::Accepted(at + i)
 }
 
-// An impact count, and the impacts.
-fn read_impacts(width: usize, height: usize, part: &[u32], at: usize) -> Answer
+// A count, which any word is, and as many after it.
+fn read_listed<R: Reads<Word = u32>>(of: R, part: &[u32], at: usize) -> Result<usize, Refusal>
     requires { at + length part.now < 2 ^ 63 }
-    ensures { told result ≡ outcome (listed (read_claim width height) at part.now) }
+    ensures { told result ≡ outcome (listed (R.walk of) at part.now) }
 {
-    if part.len() == 0 {
-        return Answer::Refused(Refusal::WordMissing(at));
-    }
-    read_claims(wide(part[0]), width, height, &part[1..], at + 1)
+    let Some((&n, rest)) = part.split_first() else {
+        return Err(Refusal::WordMissing(at));
+    };
+    read_times(of, wide(n), rest, at + 1)
 }
 
 // Blank, or a colour of the set.
@@ -67,64 +67,41 @@ fn is_color(colors: u32, color: u32) -> bool
     color == 0 || has(colors, color)
 }
 
-fn read_probe(width: usize, height: usize, colors: u32, part: &[u32], at: usize) -> Answer
-    requires { at + length part.now < 2 ^ 63 }
-    ensures { told result ≡ outcome (read_probe width height colors at part.now) }
-{
-    let premise = read_claim(width, height, part, at);
-    let Answer::Accepted(_) = premise else {
-        return premise;
-    };
-    if !is_color(colors, part[2]) {
-        return Answer::Refused(Refusal::ProbeColor(at + 2));
-    }
-    read_impacts(width, height, &part[3..], at + 3)
-}
-
-fn read_probe_list(
-    n: usize,
-    width: usize,
-    height: usize,
+#[derive(Clone, Copy)]
+struct Probe {
+    claim: Claim,
     colors: u32,
-    part: &[u32],
-    at: usize,
-) -> Answer
-    requires { at + length part.now < 2 ^ 63 }
-    ensures { told result ≡ outcome (times n (read_probe width height colors) at part.now) }
-{
-    let mut i = 0;
-    for k in 0..n {
-        let read = read_probe(width, height, colors, &part[i..], at + i);
-        let Answer::Accepted(next) = read else {
-            return read;
-        };
-        i = next - at;
-    }
-    Answer::Accepted(at + i)
 }
 
-fn read_probes(width: usize, height: usize, colors: u32, probe: &[u32]) -> Answer
-    ensures { told result ≡ outcome (read_probes width height colors probe.now) }
-{
-    if probe.len() == 0 {
-        return Answer::Refused(Refusal::WordMissing(0));
+impl Reads for Probe {
+    type Word = u32;
+
+    ghost item = { Probe };
+
+    ghost walk = { λ p. read_probe p.claim.width p.claim.height p.colors };
+
+    ghost onward = { λ p. probe_onward p.claim.width p.claim.height p.colors };
+
+    fn read(self, part: &[u32], at: usize) -> Result<usize, Refusal> {
+        self.claim.read(part, at)?;
+        if !is_color(self.colors, part[2]) {
+            return Err(Refusal::ProbeColor(at + 2));
+        }
+        read_listed(self.claim, &part[3..], at + 3)
     }
-    read_probe_list(wide(probe[0]), width, height, colors, &probe[1..], 1)
 }
 
 // Document 01's order: 20, the walk, 11.
-pub fn check_probes(width: usize, height: usize, colors: u32, probe: &[u32]) -> Answer
+pub fn check_probes(width: usize, height: usize, colors: u32, probe: &[u32]) -> Result<(), Refusal>
     ensures { checked result ≡ checks_on width height colors probe.now }
 {
     if 1_048_576 < probe.len() {
-        return Answer::Refused(Refusal::TooManyProbeWords(probe.len()));
+        return Err(Refusal::TooManyProbeWords(probe.len()));
     }
-    let read = read_probes(width, height, colors, probe);
-    let Answer::Accepted(end) = read else {
-        return read;
-    };
+    let claim = Claim { width, height };
+    let end = read_listed(Probe { claim, colors }, probe, 0)?;
     if end < probe.len() {
-        return Answer::Refused(Refusal::LeftOver(end));
+        return Err(Refusal::LeftOver(end));
     }
-    Answer::Accepted(end)
+    Ok(())
 }

@@ -1,20 +1,11 @@
 use mathlib.Core.Path.{ap, ◌∙◌}
 use native.Mathlib.Omega.{arith}
-use borrow.Author.Tests.{lt-ltb, le-ltb}
+use borrow.Author.Tests.{le-ltb}
 use Rattle.refusals.specs.Told.{checked}
 use Rattle.refusals.proofs.Answering.{handed}
 use Rattle.refusals.proofs.Passing.{walked_refused, walked_left, walked_done}
 use Rattle.formulas.proofs.Readers.{sections_reader}
 use Rattle.formulas.proofs.check.check_words.Goals as goal
-
-pub returns-then-variables : goal.returns-then-variables
-returns-then-variables c = rw (lt-ltb _ _ c.if-variables.true)
-
-pub returns-then-sections-gt-SECTIONS : goal.returns-then-sections-gt-SECTIONS
-returns-then-sections-gt-SECTIONS c = rw (le-ltb _ _ c.if-variables.false, lt-ltb _ _ c.if-sections-gt-SECTIONS.true)
-
-pub returns-then-words-gt-WORDS : goal.returns-then-words-gt-WORDS
-returns-then-words-gt-WORDS c = rw (le-ltb _ _ c.if-variables.false, le-ltb _ _ c.if-sections-gt-SECTIONS.false, lt-ltb _ _ c.if-words-gt-WORDS.true)
 
 pub returns-in_err-end : goal.returns-in_err-end
 returns-in_err-end c = ap checked (handed _ c.from_residual.ensures.1) ∙ rw (le-ltb _ _ c.if-variables.false, le-ltb _ _ c.if-sections-gt-SECTIONS.false, le-ltb _ _ c.if-words-gt-WORDS.false) (walked_refused _ _ _ c.in_err-end.ensures)

@@ -1,5 +1,4 @@
 use mathlib.Core.Path.{sym, ◌∙◌}
-use Rattle.lines.specs.Calls.{off_size}
 use Rattle.refusals.proofs.Passing.{count_missing, count_off, count_on}
 use Rattle.puzzles.proofs.Places.{lines_within}
 use Rattle.puzzles.proofs.section.read_lines.Goals as goal
