@@ -63,14 +63,6 @@ transposed_size {w} {h} {grid} S = S.cells ∙ sym (transposed_length w h grid)
 -- ---- the loop that writes a column
 
 module _ (w h : ℕ) (grid : List ℕ) (x : ℕ) where
-  pub column_first : (out : List ℕ) (at : ℕ) → at + h ≤ length out → Emitting h (λ y. get_or grid (y * w + x) 0 ∷ []) out at out at 0
-  unfolding tab
-  column_first out at r = emit_first h _ out at (omega (arith, length_tab h (λ y. get_or grid (y * w + x) 0)))
-
-  pub column_done : {out₀ out : List ℕ} {at₀ at y : ℕ} → Emitting h (λ y. get_or grid (y * w + x) 0 ∷ []) out₀ at₀ out at y → h ≤ y
-      → Wrote (column w h grid x) out₀ at₀ out at
-  unfolding column tab
-  column_done E l = emit_done E l
 
 -- ---- the loop that writes the columns
 

@@ -1,13 +1,13 @@
 -- A loop `for i in 0..n` whose turn i writes f i; and one that starts at a later turn.
-use mathlib.Core.Path.{◌≡◌}
-use mathlib.Core.List.{List}
+use mathlib.Core.Path.{◌≡◌, refl}
+use mathlib.Core.List.{List, [], ◌∷◌}
 use Prim.Native.Nat.{ℕ, ◌+◌, ◌-◌, ◌≤◌, ◌<◌}
 use native.Mathlib.Omega.{arith}
-use lib.ListN.{length}
-use Rattle.lists.specs.Each.{each}
+use lib.ListN.{length, set}
+use Rattle.lists.specs.Each.{each, tab}
 use Rattle.lists.specs.Wrote.{Wrote}
-use Rattle.lists.proofs.Eaches.{rest, rest_first, rest_next, rest_done}
-use Rattle.lists.proofs.Writing.{Filling, fill_first, fill_room, fill_next, fill_kept, fill_done}
+use Rattle.lists.proofs.Eaches.{rest, rest_first, rest_next, rest_done, each_length}
+use Rattle.lists.proofs.Writing.{Filling, fill_first, fill_room, fill_next, fill_kept, fill_done, wrote_store}
 
 module _ {A : Type 0} where
   pub record Emitting (n : ℕ) (f : ℕ → List A) (out₀ : List A) (at₀ : ℕ) (out : List A) (at i : ℕ) : Type 0 where
@@ -58,3 +58,22 @@ module _ {A : Type 0} where
 
     pub from_done : n ≤ i → Wrote (each (n - s) (λ k. f (s + k))) out₀ at₀ out at
     from_done h = emit_done E.emit (omega arith)
+
+-- ---- turn i stores one element, at its own place `at + i`
+
+module _ {A : Type 0} {n : ℕ} {f : ℕ → A} {out₀ out : List A} {at i : ℕ} (E : Emitting n (λ i. f i ∷ []) out₀ at out (at + i) i) where
+  pub one_room : i < n → at + i < length out
+  one_room h = omega (arith, emit_room E h)
+
+  pub one_next : i < n → Emitting n (λ i. f i ∷ []) out₀ at (set out (at + i) (f i)) (at + (i + 1)) (i + 1)
+  one_next h =
+      let e : at + i + 1 ≡ at + (i + 1) = omega arith in
+      rw e at (emit_next E h (wrote_store out (at + i) (f i) (one_room h)))
+
+  -- they are all stored
+  pub one_done : n ≤ i → Wrote (tab n f) out₀ at out (at + n)
+  unfolding tab
+  one_done h = let e : i ≡ n = omega (arith, E.within) in rw e at (emit_done E h)
+
+pub one_first : {A : Type 0} (n : ℕ) (f : ℕ → A) (out : List A) (at : ℕ) → at + n ≤ length out → Emitting n (λ i. f i ∷ []) out at out (at + 0) 0
+one_first n f out at h = let e : at ≡ at + 0 = omega arith in rw (← e) (emit_first n (λ i. f i ∷ []) out at (omega (arith, each_length n 1 (λ i. f i ∷ []) (λ i. refl))))

@@ -1,11 +1,8 @@
 use mathlib.Core.List.{[], ◌∷◌}
-use Prim.Native.Nat.{◌+◌, ◌-◌, ◌*◌}
+use Prim.Native.Nat.{◌+◌, ◌*◌}
 use lib.ListN.{get_or}
 use Rattle.lists.proofs.Emitting.{Emitting}
 use Rattle.transposing.proofs.columns.put_column.Given as goal
 
 abbrev pub invariant-loop-y : goal.invariant-loop-y
-invariant-loop-y l = Emitting l.height (λ y. get_or l.grid (y * l.width + l.x) 0 ∷ []) l.initial.out l.at l.out l.to l.y
-
-abbrev pub decreases-loop-y : goal.decreases-loop-y
-decreases-loop-y l = l.height - l.y
+invariant-loop-y l = Emitting l.height (λ y. get_or l.grid (y * l.width + l.x) 0 ∷ []) l.initial.out l.at l.out (l.at + l.y) l.y

@@ -1,22 +1,22 @@
 use mathlib.Core.Path.{sym, ap, ◌∙◌}
 use native.Mathlib.Omega.{arith}
 use Rattle.refusals.specs.Told.{checked}
-use Rattle.refusals.proofs.Answering.{answers_refused, answers_short, answers_wrote}
+use Rattle.refusals.proofs.Answering.{handed, answers_refused, answers_short, answers_wrote}
 use Rattle.grids.proofs.Cells.{transposed_size}
 use Rattle.grids.proofs.Checking.{size_ok}
 use Rattle.transposing.proofs.transpose.transpose.Goals as goal
 
-pub returns-in_default : goal.returns-in_default
-returns-in_default c = answers_refused _ _ c.in_default.is c.check_size-checked.ensures
+pub returns-in_err-check_size : goal.returns-in_err-check_size
+returns-in_err-check_size c = rw (handed c.from_residual.result c.from_residual.ensures.1) (answers_refused _ _ _ c.in_err-check_size.ensures)
 
 pub returns-then-out-grid : goal.returns-then-out-grid
 returns-then-out-grid c =
-    let e = sym (ap checked c.in-Accepted.is) ∙ c.check_size-checked.ensures in
+    let e = c.in_ok-check_size.ensures in
     answers_short _ _ e (transposed_size (size_ok e)) c.if-out-grid.true
 
 pub put_columns-requires : goal.put_columns-requires
 put_columns-requires c =
-    let e = sym (ap checked c.in-Accepted.is) ∙ c.check_size-checked.ensures in
+    let e = c.in_ok-check_size.ensures in
     (size_ok e, c.if-out-grid.false)
 
 pub shape_of-out : goal.shape_of-out
@@ -24,5 +24,5 @@ shape_of-out c = c.put_columns.auto.out
 
 pub returns : goal.returns
 returns c =
-    let e = sym (ap checked c.in-Accepted.is) ∙ c.check_size-checked.ensures in
+    let e = c.in_ok-check_size.ensures in
     answers_wrote _ _ e (omega (arith, transposed_size (size_ok e), c.if-out-grid.false)) c.put_columns.ensures
