@@ -1,13 +1,12 @@
 -- The cells of a grid, by row and by column.
 use mathlib.Core.Path.{◌≡◌, sym, ap, ◌∙◌}
-use mathlib.Core.List.{List, [], ◌∷◌}
+use mathlib.Core.List.{List}
 use Prim.Native.Nat.{ℕ, ◌+◌, ◌*◌, ◌/◌, ◌%◌, ◌≤◌, ◌<◌}
 use native.Mathlib.Omega.{arith}
 use native.Mathlib.Nat.{mul_comm, mul-zero, div-add-mod', mod-lt, div-lt_iff_lt-mul}
 use native.Mathlib.Decide.{dec_lt}
 use lib.ListN.{length, get_or}
 use lib.Seq.{ext_get_or}
-use Rattle.lists.specs.Each.{tab}
 use Rattle.lists.specs.Wrote.{Wrote}
 use Rattle.lists.proofs.Eaches.{each_length, length_tab, get_or_tab}
 use Rattle.lists.proofs.Parts.{place_within, get_or_each}
@@ -59,10 +58,6 @@ module _ (w h : ℕ) (grid : List ℕ) where
 
 pub transposed_size : {w h : ℕ} {grid : List ℕ} → Sized w h grid → length grid ≡ length (transposed w h grid)
 transposed_size {w} {h} {grid} S = S.cells ∙ sym (transposed_length w h grid)
-
--- ---- the loop that writes a column
-
-module _ (w h : ℕ) (grid : List ℕ) (x : ℕ) where
 
 -- ---- the loop that writes the columns
 

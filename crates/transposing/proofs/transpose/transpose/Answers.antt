@@ -1,6 +1,4 @@
-use mathlib.Core.Path.{sym, ap, ◌∙◌}
 use native.Mathlib.Omega.{arith}
-use Rattle.refusals.specs.Told.{checked}
 use Rattle.refusals.proofs.Answering.{handed, answers_refused, answers_short, answers_wrote}
 use Rattle.grids.proofs.Cells.{transposed_size}
 use Rattle.grids.proofs.Checking.{size_ok}
