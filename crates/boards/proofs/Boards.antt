@@ -2,7 +2,7 @@
 use mathlib.Core.Path.{◌≡◌, refl, sym, ap, ◌∙◌}
 use mathlib.Core.Bool.{cond}
 use mathlib.Core.List.{List, ◌++◌}
-use Prim.Native.Nat.{ℕ, ◌+◌, ◌-◌, ◌<◌}
+use Prim.Native.Nat.{ℕ, ◌+◌, ◌-◌, ◌≤◌, ◌<◌}
 use native.Mathlib.Omega.{arith}
 use native.Mathlib.Nat.{add-zero, zero-add}
 use lib.Dec.{eqb}
@@ -11,18 +11,16 @@ use lib.Seq.{drop_at, drop-drop, get_or-append-add}
 use borrow.Author.Tests.{ne_eqb}
 use Rattle.lists.proofs.Writing.{tail_is}
 use Rattle.refusals.specs.Verdict.{Verdict, accepted, passed, and_then}
-use Rattle.refusals.specs.Told.{told, checked}
+use Rattle.refusals.specs.Told.{refusal}
 use Rattle.refusals.specs.declared.Refusal.{Refusal}
-use Rattle.refusals.specs.declared.Answer.{Answer}
-use Rattle.refusals.specs.declared.Answer.TheVariants.{Accepted, Refused}
 use Rattle.refusals.specs.Walk.{walked}
-use Rattle.refusals.proofs.Answering.{handed_up, handed_on, accepted_passed, told_checks, told_found, refused_so}
+use Rattle.refusals.proofs.Answering.{handed_up, refused_first, accepted_first, refused_so}
 use Rattle.puzzles.specs.Puzzle.{Puzzle, width, height, lines, lines_words, cells_words, puzzle_words, rows_at, cells_at}
 use Rattle.puzzles.specs.Walk.{read_puzzle}
 use Rattle.puzzles.specs.Checks.{colors, column_checks, solved_checks, spaces, meaning_checks, puzzle, puzzle_checks, Sectioned}
 use Rattle.tables.specs.declared.table.Parts.{Parts}
 use Rattle.tables.specs.Table.{begin_at, Found}
-use Rattle.puzzles.proofs.Accepting.{Walked, walked_sections, size_some}
+use Rattle.puzzles.proofs.Accepting.{Walked, walked_sections, size_some, sizes}
 use Rattle.tables.proofs.Beginning.{begin_next, begin_rows, begin_cells}
 
 module _ (z : Puzzle) where
@@ -88,6 +86,27 @@ module _ (ws : List ℕ) (S : Sectioned ws) where
         let c : ◌≡◌ {A = ℕ} (cond (eqb (l + 1) (width z)) 1 0) 0 = rw (ne_eqb (l + 1) (width z) no) in
         omega (arith, F.begin_is, F.end_is, n, c, ap (begin_at z) le, begin_cells z)
 
+-- the width and the height, as they are read
+pub record Sized (ws : List ℕ) (w rows h : ℕ) : Type 0 where
+  pub width_is : w ≡ width (puzzle ws)
+  pub width_few : (1 ≤ w) × (w ≤ 64)
+  pub rows_is : rows ≡ rows_at (puzzle ws)
+  pub height_is : h ≡ height (puzzle ws)
+  pub height_few : (1 ≤ h) × (h ≤ 64)
+
+pub sized : (ws : List ℕ) (S : Sectioned ws) {table : List ℕ} {p : Parts} {w h : ℕ} → w ≡ get_or ws 0 0 → Found ws table w p → h ≡ get_or ws (p.begin - 2) 0 → Sized ws w (p.begin - 2) h
+sized ws S we F he =
+    let wi = we ∙ width_word ws S in
+    let rows_are = rows_found ws S wi F in
+    let hi = he ∙ height_word ws S (omega (arith, rows_are)) in
+    record {
+      width_is = wi;
+      width_few = (omega (arith, wi, width_some ws S), omega (arith, wi, sizes ws S));
+      rows_is = omega (arith, rows_are);
+      height_is = hi;
+      height_few = (omega (arith, hi, height_some ws S), omega (arith, hi, sizes ws S));
+    }
+
 -- ---- the checks, one after another
 
 -- what they tell of a puzzle, and of its words: a refusal, or the colour set
@@ -97,35 +116,35 @@ Meaning z = and_then (meaning_checks z) (accepted (colors z))
 abbrev Whole : List ℕ → Verdict ℕ
 Whole ws = and_then (puzzle_checks ws) (accepted (colors (puzzle ws)))
 
-module _ (z : Puzzle) {a : Answer} (t : told a ≡ and_then (spaces z) (accepted (cells_at z))) where
-  pub spaces_off : {why : Refusal} → a ≡ Refused why → {X : Type 0} → (told a ≡ Meaning z) × (passed ≡ meaning_checks z → X)
+module _ (z : Puzzle) where
+  pub spaces_off : (why : Refusal) → refusal why ≡ and_then (spaces z) (accepted (cells_at z)) → {X : Type 0} → (refusal {A = ℕ} why ≡ Meaning z) × (passed ≡ meaning_checks z → X)
   unfolding meaning_checks
-  spaces_off r = refused_so r _ _ (handed_up (handed_on (told_checks _ (spaces z) r t) r _) r _)
+  spaces_off why t = refused_so why _ _ (handed_up why (handed_up why (refused_first _ why (spaces z) t) _) _)
 
-  pub spaces_pass : {n : ℕ} → a ≡ Accepted n → (passed ≡ spaces z) × (n ≡ cells_at z)
-  spaces_pass r = (accepted_passed (told_checks _ (spaces z) r t) r, told_found _ (spaces z) r t)
+  pub spaces_pass : {n : ℕ} → accepted n ≡ and_then (spaces z) (accepted (cells_at z)) → (passed ≡ spaces z) × (n ≡ cells_at z)
+  spaces_pass t = accepted_first _ (spaces z) t
 
 module _ (z : Puzzle) (s : passed ≡ spaces z) {K : ℕ} (ke : K ≡ colors z) where
   meaning : meaning_checks z ≡ and_then (column_checks K z.columns) (solved_checks K z.masks)
   unfolding meaning_checks
   meaning = rw (← s, ke)
 
-  pub columns_off : {a : Answer} {why : Refusal} → a ≡ Refused why → checked a ≡ column_checks K z.columns → {X : Type 0} → (told a ≡ Meaning z) × (passed ≡ meaning_checks z → X)
-  columns_off r e = refused_so r _ _ (handed_up (handed_on e r _ ∙ sym meaning) r _)
+  pub columns_off : (why : Refusal) → refusal why ≡ column_checks K z.columns → {X : Type 0} → (refusal {A = ℕ} why ≡ Meaning z) × (passed ≡ meaning_checks z → X)
+  columns_off why e = refused_so why _ _ (handed_up why (handed_up why e _ ∙ sym meaning) _)
 
   module _ (c : passed ≡ column_checks K z.columns) where
-    pub cells_off : {a : Answer} {why : Refusal} → a ≡ Refused why → checked a ≡ solved_checks K z.masks → {X : Type 0} → (told a ≡ Meaning z) × (passed ≡ meaning_checks z → X)
-    cells_off r e = refused_so r _ _ (handed_up (e ∙ sym (meaning ∙ rw (← c))) r _)
+    pub cells_off : (why : Refusal) → refusal why ≡ solved_checks K z.masks → {X : Type 0} → (refusal {A = ℕ} why ≡ Meaning z) × (passed ≡ meaning_checks z → X)
+    cells_off why e = refused_so why _ _ (handed_up why (e ∙ sym (meaning ∙ rw (← c))) _)
 
     pub meaning_done : passed ≡ solved_checks K z.masks → accepted K ≡ Meaning z
     meaning_done e = rw (meaning, ← c, ← e, ke)
 
-module _ (ws : List ℕ) {a : Answer} (t : told a ≡ and_then (walked 11 (read_puzzle 0 ws)) (accepted (0 + rows_at (puzzle ws)))) where
-  pub sections_off : {why : Refusal} → a ≡ Refused why → {X : Type 0} → (told a ≡ Whole ws) × (passed ≡ puzzle_checks ws → X)
-  sections_off r = refused_so r _ _ (handed_up (handed_on (told_checks _ (walked 11 (read_puzzle 0 ws)) r t) r _) r _)
+module _ (ws : List ℕ) where
+  pub sections_off : (why : Refusal) → refusal why ≡ and_then (walked 11 (read_puzzle 0 ws)) (accepted (0 + rows_at (puzzle ws))) → {X : Type 0} → (refusal {A = ℕ} why ≡ Whole ws) × (passed ≡ puzzle_checks ws → X)
+  sections_off why t = refused_so why _ _ (handed_up why (handed_up why (refused_first _ why (walked 11 (read_puzzle 0 ws)) t) _) _)
 
-  pub sections_read : {n : ℕ} → a ≡ Accepted n → Sectioned ws × (n ≡ rows_at (puzzle ws))
-  sections_read r = (accepted_passed (told_checks _ (walked 11 (read_puzzle 0 ws)) r t) r, told_found _ (walked 11 (read_puzzle 0 ws)) r t ∙ zero-add (rows_at (puzzle ws)))
+  pub sections_read : {n : ℕ} → accepted n ≡ and_then (walked 11 (read_puzzle 0 ws)) (accepted (0 + rows_at (puzzle ws))) → Sectioned ws × (n ≡ rows_at (puzzle ws))
+  sections_read t = let f = accepted_first _ (walked 11 (read_puzzle 0 ws)) t in (f.0, f.1 ∙ zero-add (rows_at (puzzle ws)))
 
 -- and once they are read
 pub sections_on : (ws : List ℕ) → Sectioned ws → {v : Verdict ℕ} {X : Type 0} → (v ≡ Meaning (puzzle ws)) × (passed ≡ meaning_checks (puzzle ws) → X) → (v ≡ Whole ws) × (passed ≡ puzzle_checks ws → X)

@@ -1,5 +1,5 @@
 -- The colour set, as the loops gather it and look into it.
-use mathlib.Core.Path.{◌≡◌, refl, sym, ap, ◌∙◌}
+use mathlib.Core.Path.{◌≡◌, sym, ap, ◌∙◌}
 use mathlib.Core.Bool.{true, false}
 use mathlib.Core.List.{List, []}
 use Prim.Native.Nat.{ℕ, ◌+◌, ◌-◌, ◌≤◌, ◌<◌}
@@ -10,49 +10,43 @@ use lib.ListN.{length, drop, get_or, drop_of_length-le}
 use borrow.Author.Tests.{eq-eqb, ne_eqb}
 use Rattle.lists.proofs.Dropping.{drop_one}
 use Rattle.bits.specs.Bits.{bit, with_bit, solved}
+use Rattle.lines.specs.Arrangement.{block_at}
 use Rattle.lines.specs.Clue.{words, blocks}
-use Rattle.lines.proofs.ClueWords.{blocks_next, blocks_done, blocks_words}
+use Rattle.lines.proofs.ClueWords.{blocks_words}
 use Rattle.puzzles.specs.Puzzle.{Puzzle, width, height, clue_at}
 use Rattle.puzzles.specs.Colors.{with_colors, with_lines, color_set, known, off_solved}
 use Rattle.puzzles.proofs.Lines.{clue_column, clue_row}
 
--- ---- the blocks of a clue
+-- ---- the blocks of a clue, of which a loop has passed b
 
-pub record Gathering (mask : ℕ) (clue : List ℕ) (all i : ℕ) : Type 0 where
-  pub within : i ≤ length clue
-  pub same : with_colors mask (blocks clue) ≡ with_colors all (blocks (drop i clue))
+pub record Gathering (mask : ℕ) (clue : List ℕ) (all b : ℕ) : Type 0 where
+  pub same : with_colors mask (blocks clue) ≡ with_colors all (drop b (blocks clue))
 
-pub gathering_first : (mask : ℕ) (clue : List ℕ) → Gathering mask clue mask 0
-gathering_first mask clue = record { within = omega arith; same = refl }
-
-module _ {mask all i : ℕ} {clue : List ℕ} (G : Gathering mask clue all i) where
-  pub gathering_next : i + 1 < length clue → {more : ℕ} → more ≡ with_bit all (get_or clue (i + 1) 0) → Gathering mask clue more (i + 2)
+module _ {mask all b : ℕ} {clue : List ℕ} (G : Gathering mask clue all b) where
+  pub gathering_next : b < length (blocks clue) → {color more : ℕ} → color ≡ (block_at (blocks clue) b).color → more ≡ with_bit all color → Gathering mask clue more (b + 1)
   unfolding with_colors
-  gathering_next h e = record { within = omega arith; same = G.same ∙ rw (blocks_next clue i h, e) }
+  gathering_next h k e = record { same = G.same ∙ rw (drop_one (record { size = 0; color = 0 }) (blocks clue) b h, e, k) }
 
-  pub gathering_done : length clue ≤ i + 1 → all ≡ with_colors mask (blocks clue)
+  pub gathering_done : drop b (blocks clue) ≡ [] → all ≡ with_colors mask (blocks clue)
   unfolding with_colors
-  gathering_done h = sym (G.same ∙ rw (blocks_done clue i h))
+  gathering_done h = sym (G.same ∙ rw h)
 
-pub record Knowing (K : ℕ) (clue : List ℕ) (i : ℕ) : Type 0 where
-  pub within : i ≤ length clue
-  pub same : known K (blocks clue) ≡ known K (blocks (drop i clue))
+pub record Knowing (K : ℕ) (clue : List ℕ) (b : ℕ) : Type 0 where
+  pub same : known K (blocks clue) ≡ known K (drop b (blocks clue))
 
-pub knowing_first : (K : ℕ) (clue : List ℕ) → Knowing K clue 0
-knowing_first K clue = record { within = omega arith; same = refl }
+module _ {K b : ℕ} {clue : List ℕ} (N : Knowing K clue b) where
+  module _ (h : b < length (blocks clue)) {color : ℕ} (k : color ≡ (block_at (blocks clue) b).color) where
+    pub knowing_not : bit K color ≡ false → false ≡ known K (blocks clue)
+    unfolding known
+    knowing_not e = sym (N.same ∙ rw (drop_one (record { size = 0; color = 0 }) (blocks clue) b h, ← k, e))
 
-module _ {K i : ℕ} {clue : List ℕ} (N : Knowing K clue i) where
-  pub knowing_not : i + 1 < length clue → bit K (get_or clue (i + 1) 0) ≡ false → false ≡ known K (blocks clue)
+    pub knowing_next : bit K color ≡ true → Knowing K clue (b + 1)
+    unfolding known
+    knowing_next e = record { same = N.same ∙ rw (drop_one (record { size = 0; color = 0 }) (blocks clue) b h, ← k, e) }
+
+  pub knowing_done : drop b (blocks clue) ≡ [] → true ≡ known K (blocks clue)
   unfolding known
-  knowing_not h e = sym (N.same ∙ rw (blocks_next clue i h, e))
-
-  pub knowing_next : i + 1 < length clue → bit K (get_or clue (i + 1) 0) ≡ true → Knowing K clue (i + 2)
-  unfolding known
-  knowing_next h e = record { within = omega arith; same = N.same ∙ rw (blocks_next clue i h, e) }
-
-  pub knowing_done : length clue ≤ i + 1 → true ≡ known K (blocks clue)
-  unfolding known
-  knowing_done h = sym (N.same ∙ rw (blocks_done clue i h))
+  knowing_done h = sym (N.same ∙ rw h)
 
 -- ---- the rows
 

@@ -1,10 +1,9 @@
 -- What reading a puzzle's words answers: a refusal, or a board that stands for the puzzle, with the table of its lines laid.
-use Rattle.std.specs.Prelude.{◌≡◌, List, ℕ}
+use Rattle.std.specs.Prelude.{◌≡◌, List, ℕ, Result, Ok, Err}
 use Rattle.refusals.specs.Verdict.{passed}
+use Rattle.refusals.specs.declared.Refusal.{Refusal}
 use Rattle.refusals.specs.Told.{refusal}
 use Rattle.boards.specs.declared.board.Board.{Board}
-use Rattle.boards.specs.declared.board.Reading.{Reading}
-use Rattle.boards.specs.declared.board.Reading.TheVariants.{Read, Refused}
 use Rattle.puzzles.specs.Puzzle.{Puzzle, width, height, lines, rows_at, cells_at}
 use Rattle.puzzles.specs.Checks.{colors, puzzle_checks, puzzle}
 use Rattle.puzzles.specs.Firsts.{first_at}
@@ -24,6 +23,6 @@ pub record Held (ws : List ℕ) (table : List ℕ) (b : Board) : Type 0 where
   pub stands : Stands b (puzzle ws)
   pub laid : Laid (puzzle ws) table
 
-abbrev pub Reads : List ℕ → List ℕ → Reading → Type 0
-Reads ws table (Read b) = Held ws table b
-Reads ws table (Refused why) = refusal why ≡ puzzle_checks ws
+abbrev pub Reads : List ℕ → List ℕ → Result Board Refusal → Type 0
+Reads ws table (Ok b) = Held ws table b
+Reads ws table (Err why) = refusal why ≡ puzzle_checks ws

@@ -11,8 +11,8 @@ ghost use Rattle.boards.specs.Reading.{Stands, Reads};
 use crate::colors::{check_cells, check_columns, row_colors};
 use lists::wide;
 use puzzles::check::check_sections;
-use refusals::{Answer, Refusal};
-use tables::table::{find_line, lay_lines, next_first};
+use refusals::Refusal;
+use tables::table::{Table, lay_lines};
 
 // Where the rows and the cells begin, the first cell variable, and the colour set as a mask.
 #[derive(Clone, Copy)]
@@ -25,83 +25,71 @@ pub struct Board {
     pub colors: u32,
 }
 
-#[derive(Clone, Copy)]
-pub enum Reading {
-    Read(Board),
-    Refused(Refusal),
-}
-
 // Once the sections are read: 6, 9, 10; and else the colour set.
-fn check_meaning(words: &[u32], width: usize, height: usize, table: &mut [u32]) -> Answer
+fn check_meaning(
+    words: &[u32],
+    width: usize,
+    height: usize,
+    table: &mut [u32],
+) -> Result<u32, Refusal>
     requires sectioned { C.Sectioned words.now }
     requires width_value { (width ≡ P.width (C.puzzle words.now)) × (height ≡ P.height (C.puzzle words.now)) × (table_size ≤ length table.old) }
     ensures result_value { told result ≡ and_then (C.meaning_checks (C.puzzle words.now)) (accepted (C.colors (C.puzzle words.now))) }
     ensures laid { passed ≡ C.meaning_checks (C.puzzle words.now) → Laid (C.puzzle words.now) table.new }
 {
-    let laid = lay_lines(words, width, height, table);
-    let Answer::Accepted(cells) = laid else {
-        return laid;
+    let cells = lay_lines(words, width, height, table)?;
+    let laid = Table {
+        words,
+        lines: table,
     };
-    let colors = row_colors(words, width, height, table);
-    let columns = check_columns(words, width, colors, table);
-    let Answer::Accepted(_) = columns else {
-        return columns;
-    };
-    let solved = check_cells(&words[cells + 1..], colors);
-    let Answer::Accepted(_) = solved else {
-        return solved;
-    };
-    Answer::Accepted(wide(colors))
+    let colors = row_colors(laid, width, height);
+    check_columns(laid, width, colors)?;
+    check_cells(&words[cells + 1..], colors)?;
+    Ok(colors)
 }
 
 // Document 01's order: the walk and 11; 6; 9; 10.
-fn check_puzzle(words: &[u32], table: &mut [u32]) -> Answer
+fn check_puzzle(words: &[u32], table: &mut [u32]) -> Result<u32, Refusal>
     requires { table_size ≤ length table.old }
     ensures result_value { told result ≡ and_then (C.puzzle_checks words.now) (accepted (C.colors (C.puzzle words.now))) }
     ensures laid { passed ≡ C.puzzle_checks words.now → Laid (C.puzzle words.now) table.new }
 {
-    let sections = check_sections(words, 0);
-    let Answer::Accepted(rows) = sections else {
-        return sections;
-    };
+    let rows = check_sections(words, 0)?;
     let width = wide(words[0]);
     let height = wide(words[rows]);
     check_meaning(words, width, height, table)
 }
 
-// The board of accepted words, from the table.
-fn board_of(words: &[u32], colors: u32, table: &[u32]) -> Board
-    requires passed_value { (passed ≡ C.puzzle_checks words.now) × (colors ≡ C.colors (C.puzzle words.now)) }
-    requires laid { Laid (C.puzzle words.now) table.now }
-    requires table_size_in_bounds { table_size ≤ length table.now }
-    ensures { Stands result (C.puzzle words.now) }
+// The board of words that were accepted, from the table of their lines.
+fn board_of(table: Table, colors: u32) -> Board
+    requires { colors ≡ C.colors (C.puzzle table.words.now) }
+    ensures { Stands result (C.puzzle table.entry.words.now) }
 {
-    let width = wide(words[0]);
-    let row = find_line(words, table, width);
+    let width = wide(table.words[0]);
+    let row = table.find_line(width);
     let rows = row.begin - 2;
-    let height = wide(words[rows]);
+    let height = wide(table.words[rows]);
     let last = width + height - 1;
-    let line = find_line(words, table, last);
-    let cells = line.end;
-    let first = next_first(words, table, last);
+    let line = table.find_line(last);
     Board {
         width,
         height,
         rows,
-        cells,
-        first,
+        cells: line.end,
+        first: table.next_first(last),
         colors,
     }
 }
 
 // Reads a puzzle's words, and lays its lines into a table.
-pub fn read_puzzle(words: &[u32], table: &mut [u32]) -> Reading
+pub fn read_puzzle(words: &[u32], table: &mut [u32]) -> Result<Board, Refusal>
     requires { table_size ≤ length table.old }
     ensures { Reads words.now table.new result }
 {
-    let checked = check_puzzle(words, table);
-    match checked {
-        Answer::Refused(why) => Reading::Refused(why),
-        Answer::Accepted(colors) => Reading::Read(board_of(words, colors as u32, table)),
-    }
+    let colors = check_puzzle(words, table)?;
+    let laid = Table {
+        words,
+        lines: table,
+    };
+    Ok(board_of(laid, colors))
 }

@@ -7,11 +7,9 @@ use lib.ListN.{length, get_or}
 use lib.Dec.{eqb, ltb}
 use borrow.Author.Tests.{eq-eqb, ne_eqb, eqb-true, ltb-false, not-false}
 use Rattle.refusals.specs.Verdict.{passed, refused}
-use Rattle.refusals.specs.Told.{checked}
+use Rattle.refusals.specs.Told.{refusal}
 use Rattle.refusals.specs.declared.Refusal.{Refusal}
-use Rattle.refusals.specs.declared.Answer.{Answer}
-use Rattle.refusals.specs.declared.Answer.TheVariants.{Refused}
-use Rattle.refusals.proofs.Answering.{handed_on, refuse_accepted, then_accepted, first_accepted}
+use Rattle.refusals.proofs.Answering.{handed_up, refuse_accepted, then_accepted, first_accepted}
 use Rattle.refusals.proofs.Offending.{none_off}
 use Rattle.lines.specs.Calls.{off_size, byte_checks}
 use Rattle.lines.proofs.Checks.{size_within}
@@ -57,9 +55,9 @@ module _ {w h : ℕ} {grid : List ℕ} where
 -- ---- the bytes come after
 
 module _ (w h : ℕ) (grid : List ℕ) where
-  pub size_handed : {a : Answer} {why : Refusal} → a ≡ Refused why → checked a ≡ size_checks w h grid → checked a ≡ grid_checks w h grid
+  pub size_handed : (why : Refusal) → refusal why ≡ size_checks w h grid → refusal why ≡ grid_checks w h grid
   unfolding grid_checks
-  size_handed r e = handed_on e r _
+  size_handed why e = handed_up why e _
 
   pub size_passed : passed ≡ size_checks w h grid → byte_checks grid ≡ grid_checks w h grid
   unfolding grid_checks

@@ -30,8 +30,8 @@ fn count_begun(row: &[u8], above: &[u8]) -> usize
     ensures { result ≡ sum (length row.now) (λ x. begins (get_or above.now x 0) (get_or row.now x 0)) }
 {
     let mut count: u8 = 0;
-    for x in 0..row.len() {
-        count += run_begins(above[x], row[x]);
+    for (x, &color) in row.iter().enumerate() {
+        count += run_begins(above[x], color);
     }
     count as usize
 }

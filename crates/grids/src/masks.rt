@@ -13,8 +13,8 @@ fn cell_colors(grid: &[u8]) -> u32
     ensures { result ≡ grid_colors grid.now }
 {
     let mut mask = 1;
-    for i in 0..grid.len() {
-        mask = set(mask, grid[i] as u32);
+    for &color in grid {
+        mask = set(mask, color as u32);
     }
     mask
 }
@@ -36,11 +36,9 @@ pub fn put_masks(mask: u32, n: usize, out: &mut [u32], from: usize) -> usize
     requires { (n ≤ 4096) × (from + 1 + n ≤ length out.old) }
     ensures { Wrote (cells_words (tab n (λ _. mask))) out.old from out.new result }
 {
+    let at = from + 1;
+    let to = at + n;
     out[from] = n as u32;
-    let mut to = from + 1;
-    for _ in 0..n {
-        out[to] = mask;
-        to += 1;
-    }
+    out[at..to].fill(mask);
     to
 }

@@ -10,17 +10,14 @@ ghost use Rattle.grids.specs.Sized.{Sized};
 use crate::clues::{count_clues, count_columns, put_clues};
 use crate::masks::{cells_mask, put_masks};
 use crate::size::check_size;
-use refusals::{Answer, Refusal};
+use refusals::Refusal;
 use runs::line::check_bytes;
 
 // The size, then the bytes.
-fn check_grid(width: usize, height: usize, grid: &[u8]) -> Answer
+fn check_grid(width: usize, height: usize, grid: &[u8]) -> Result<(), Refusal>
     ensures { checked result ≡ grid_checks width height grid.now }
 {
-    let checked = check_size(width, height, grid);
-    let Answer::Accepted(_) = checked else {
-        return checked;
-    };
+    check_size(width, height, grid)?;
     check_bytes(grid)
 }
 
@@ -43,16 +40,18 @@ fn put_grid(width: usize, height: usize, grid: &[u8], out: &mut [u32]) -> usize
 }
 
 // The puzzle that a grid solves, with all masks open.
-pub fn read_grid(width: usize, height: usize, grid: &[u8], out: &mut [u32]) -> Answer
+pub fn read_grid(
+    width: usize,
+    height: usize,
+    grid: &[u8],
+    out: &mut [u32],
+) -> Result<usize, Refusal>
     ensures { Answers (grid_checks width height grid.now) (grid_words width height grid.now) out.old result out.new }
 {
-    let checked = check_grid(width, height, grid);
-    let Answer::Accepted(_) = checked else {
-        return checked;
-    };
+    check_grid(width, height, grid)?;
     let need = count_grid(width, height, grid);
     if out.len() < need {
-        return Answer::Refused(Refusal::OutputTooShort(need));
+        return Err(Refusal::OutputTooShort(need));
     }
-    Answer::Accepted(put_grid(width, height, grid, out))
+    Ok(put_grid(width, height, grid, out))
 }

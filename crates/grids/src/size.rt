@@ -4,20 +4,20 @@ ghost use Rattle.refusals.specs.Told.{checked};
 ghost use Rattle.grids.specs.Grid.{size_checks};
 
 use lines::limits::off_size;
-use refusals::{Answer, Refusal};
+use refusals::Refusal;
 
 // The product is taken of two numbers that are at most 64.
-pub fn check_size(width: usize, height: usize, grid: &[u8]) -> Answer
+pub fn check_size(width: usize, height: usize, grid: &[u8]) -> Result<(), Refusal>
     ensures { checked result ≡ size_checks width height grid.now }
 {
     if off_size(width) {
-        return Answer::Refused(Refusal::Size(0));
+        return Err(Refusal::Size(0));
     }
     if off_size(height) {
-        return Answer::Refused(Refusal::Size(1));
+        return Err(Refusal::Size(1));
     }
     if grid.len() != width * height {
-        return Answer::Refused(Refusal::CellCount(grid.len()));
+        return Err(Refusal::CellCount(grid.len()));
     }
-    Answer::Accepted(0)
+    Ok(())
 }

@@ -16,12 +16,10 @@ fn put_column(
     requires { Sized width height grid.now × (x < width) × (at + height ≤ length out.old) }
     ensures { Wrote (column width height grid.now x) out.old at out.new result }
 {
-    let mut to = at;
     for y in 0..height {
-        out[to] = grid[y * width + x];
-        to += 1;
+        out[at + y] = grid[y * width + x];
     }
-    to
+    at + height
 }
 
 // Writes the columns.

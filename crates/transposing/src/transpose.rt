@@ -4,18 +4,15 @@ ghost use Rattle.grids.specs.Grid.{transposed, size_checks};
 
 use crate::columns::put_columns;
 use grids::size::check_size;
-use refusals::{Answer, Refusal};
+use refusals::Refusal;
 
 // The grid of height cells a row that has the columns as its rows.
-pub fn transpose(width: usize, height: usize, grid: &[u8], out: &mut [u8]) -> Answer
+pub fn transpose(width: usize, height: usize, grid: &[u8], out: &mut [u8]) -> Result<usize, Refusal>
     ensures { Answers (size_checks width height grid.now) (transposed width height grid.now) out.old result out.new }
 {
-    let checked = check_size(width, height, grid);
-    let Answer::Accepted(_) = checked else {
-        return checked;
-    };
+    check_size(width, height, grid)?;
     if out.len() < grid.len() {
-        return Answer::Refused(Refusal::OutputTooShort(grid.len()));
+        return Err(Refusal::OutputTooShort(grid.len()));
     }
-    Answer::Accepted(put_columns(width, height, grid, out))
+    Ok(put_columns(width, height, grid, out))
 }

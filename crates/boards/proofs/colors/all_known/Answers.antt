@@ -1,15 +1,20 @@
-use Rattle.boards.proofs.Coloring.{knowing_first, knowing_not, knowing_next, knowing_done}
-use mathlib.Core.Path.{sym, ◌∙◌}
+use mathlib.Core.Path.{refl, sym, ◌∙◌}
+use Rattle.lines.proofs.ClueWords.{pair_within, pair_color, pairs_done}
+use Rattle.boards.proofs.Coloring.{knowing_not, knowing_next, knowing_done}
 use Rattle.boards.proofs.colors.all_known.Goals as goal
 
-pub loop-i-init : goal.loop-i-init
-loop-i-init c = knowing_first _ _
+pub loop-color-init : goal.loop-color-init
+loop-color-init c = record { same = refl }
 
 pub returns-then-not-has : goal.returns-then-not-has
-returns-then-not-has c = knowing_not c.loop-i.invariant c.loop-i-test.true (sym c.has.ensures ∙ c.if-not-has.true)
+returns-then-not-has c =
+    let p = c.blocks-color-items.ensures in
+    knowing_not c.loop-color.invariant (pair_within _ p c.loop-color-test.true) (pair_color _ p c.loop-color-test.true) (sym c.has.ensures ∙ c.if-not-has.true)
 
-pub loop-i-preserved : goal.loop-i-preserved
-loop-i-preserved c = knowing_next c.loop-i.invariant c.loop-i-test.true (sym c.has.ensures ∙ c.if-not-has.false)
+pub loop-color-preserved : goal.loop-color-preserved
+loop-color-preserved c =
+    let p = c.blocks-color-items.ensures in
+    knowing_next c.loop-color.invariant (pair_within _ p c.loop-color-test.true) (pair_color _ p c.loop-color-test.true) (sym c.has.ensures ∙ c.if-not-has.false)
 
 pub returns : goal.returns
-returns c = knowing_done c.loop-i.invariant c.loop-i-test.false
+returns c = knowing_done c.loop-color.invariant (pairs_done _ c.blocks-color-items.ensures c.loop-color-test.false)

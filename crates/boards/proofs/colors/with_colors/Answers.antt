@@ -1,11 +1,15 @@
-use Rattle.boards.proofs.Coloring.{gathering_first, gathering_next, gathering_done}
+use mathlib.Core.Path.{refl}
+use Rattle.lines.proofs.ClueWords.{pair_within, pair_color, pairs_done}
+use Rattle.boards.proofs.Coloring.{gathering_next, gathering_done}
 use Rattle.boards.proofs.colors.with_colors.Goals as goal
 
-pub loop-i-init : goal.loop-i-init
-loop-i-init c = gathering_first _ _
+pub loop-color-init : goal.loop-color-init
+loop-color-init c = record { same = refl }
 
-pub loop-i-preserved : goal.loop-i-preserved
-loop-i-preserved c = gathering_next c.loop-i.invariant c.loop-i-test.true c.with-all.ensures
+pub loop-color-preserved : goal.loop-color-preserved
+loop-color-preserved c =
+    let p = c.blocks-color-items.ensures in
+    gathering_next c.loop-color.invariant (pair_within _ p c.loop-color-test.true) (pair_color _ p c.loop-color-test.true) c.with-all.ensures
 
 pub returns : goal.returns
-returns c = gathering_done c.loop-i.invariant c.loop-i-test.false
+returns c = gathering_done c.loop-color.invariant (pairs_done _ c.blocks-color-items.ensures c.loop-color-test.false)

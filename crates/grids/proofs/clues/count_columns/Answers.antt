@@ -1,6 +1,6 @@
 use mathlib.Core.Path.{refl}
 use native.Mathlib.Omega.{arith}
-use Prim.Native.Nat.{ℕ, ◌*◌, ◌≤◌}
+use Prim.Native.Nat.{ℕ}
 use lib.ListN.{length-replicate}
 use Rattle.grids.proofs.Cells.{sized_most}
 use Rattle.grids.proofs.ColumnWords.{first_end, first_length, descending_first, row_begin, row_end, row_length_here, row_length_above, descending_next, descending_done}
