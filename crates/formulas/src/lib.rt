@@ -1,5 +1,5 @@
 // Clause words of any kind: their check, and the walk over them.
-#![tactic(auto)]
+#![tactic(auto, using(refusals::proofs::Passing::reading))]
 
 pub mod check;
 mod read;

@@ -1,4 +1,4 @@
 // Probe words: what they hold, and the walk over them.
-#![tactic(auto)]
+#![tactic(auto, using(refusals::proofs::Passing::reading))]
 
 pub mod read;

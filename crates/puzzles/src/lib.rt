@@ -1,5 +1,5 @@
 // Puzzle words: what they hold, and the walk over their sections.
-#![tactic(auto)]
+#![tactic(auto, using(refusals::proofs::Passing::reading))]
 
 pub mod check;
 mod section;

@@ -52,6 +52,9 @@ module _ {B A : Type 0} (size : B → ℕ) (m : ℕ) (off : B → Bool) (k : ℕ
     unfolding counted
     count_on o t = t ∙ rw (word_some m off k at p, o)
 
+-- what the check looks for at readers in code
+pub ruleset reading = (word_missing, word_off, word_on, count_missing, count_off)
+
 -- ---- the whole, and what it leaves
 
 module _ {B A : Type 0} (k : ℕ) (w : Walk B A) where

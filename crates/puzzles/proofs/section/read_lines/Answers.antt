@@ -1,13 +1,7 @@
 use mathlib.Core.Path.{sym, ◌∙◌}
-use Rattle.refusals.proofs.Passing.{count_missing, count_off, count_on}
+use Rattle.refusals.proofs.Passing.{count_on}
 use Rattle.puzzles.proofs.Places.{lines_within}
 use Rattle.puzzles.proofs.section.read_lines.Goals as goal
-
-pub returns-in_default-clause-walk : goal.returns-in_default-clause-walk
-returns-in_default-clause-walk c = count_missing _ _ _ _ _ _ _ c.in_default.ensures.cases
-
-pub returns-then-off_size-clause-walk : goal.returns-then-off_size-clause-walk
-returns-then-off_size-clause-walk c = count_off _ _ _ _ _ _ c.in-Some.ensures.cases.0 (rw (← c.wide-n.ensures) (sym c.off_size.ensures ∙ c.if-off_size.true))
 
 pub returns-clause-walk : goal.returns-clause-walk
 returns-clause-walk c = count_on _ _ _ _ _ _ c.in-Some.ensures.cases.0 (rw (← c.wide-n.ensures) (sym c.off_size.ensures ∙ c.if-off_size.false)) (rw (← c.wide-n.ensures) c.read_times.ensures)

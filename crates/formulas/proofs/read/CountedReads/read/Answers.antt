@@ -1,6 +1,5 @@
 use mathlib.Core.Path.{◌≡◌, refl}
-use mathlib.Core.Bool.{true, false}
-use native.Mathlib.Omega.{arith}
+use mathlib.Core.Bool.{false}
 use lib.IntN.{ℤ, pos, negsuc}
 use mir.Syntax.{w32}
 use mir.Val.{SFits}
@@ -8,25 +7,13 @@ use mir.ValLaws.{to_z-of_z}
 use Rattle.std.specs.Int.{FitsUnsignedBits}
 use Rattle.std.proofs.Common.{rules}
 use Rattle.literals.specs.Literals.{is_negative}
-use Rattle.refusals.proofs.Passing.{count_missing, count_off, count_on}
+use Rattle.refusals.proofs.Passing.{count_on}
 use Rattle.formulas.proofs.read.CountedReads.read.Goals as goal
 
 -- a word is a count where it is not negative
-no_count : (z : ℤ) → SFits w32 z → (FitsUnsignedBits 64 z → ⊥) → is_negative z ≡ true
-no_count (pos n) f h = absurd (h (omega (arith, f.sfits)))
-no_count (negsuc n) f h = refl
-
 a_count : (z : ℤ) → FitsUnsignedBits 64 z → is_negative z ≡ false
 a_count (pos n) h = refl
 a_count (negsuc n) h = absurd h
-
-pub returns-in_default : goal.returns-in_default
-returns-in_default g c = count_missing _ _ _ _ _ _ _ c.in_default.ensures.cases
-
-pub returns-in_default-try_from : goal.returns-in_default-try_from
-returns-in_default-try_from g c =
-    let f : SFits w32 c.in-Some.field-0-0.now = search rules in
-    count_off _ _ _ _ _ _ c.in-Some.ensures.cases.0 (no_count _ f (rw (to_z-of_z w32 _ f) at c.in_default-try_from.ensures))
 
 pub returns : goal.returns
 returns g c =
