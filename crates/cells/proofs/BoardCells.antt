@@ -12,10 +12,12 @@ use Rattle.boards.specs.declared.board.Board.{Board}
 use Rattle.numbering.specs.Variables.{cell_first}
 use Rattle.numbering.proofs.Bounds.{cell_least, cell_most, cells_most}
 use Rattle.cells.specs.Given.{Shows, Given}
+use Rattle.cells.specs.declared.given.Given as G
+pub use Rattle.cells.specs.Held.{cell_at}
 
--- the first variable of the cell of column x and row y, on a board of k colours
-abbrev pub cell_at : Board → ℕ → ℕ → ℕ → ℕ
-cell_at board k x y = board.first + (y * board.width + x) * k
+-- what a `Given` holds
+pub given_holds : (g : G.Given) → Given g.reading.lines.words.now g.reading.lines.table.now g.reading.board g.palette.now
+given_holds g = record { ready = g.reading.lines.ready; stands = g.reading.stands; palette_is = g.palette_is }
 
 pub given_shows : {ws table : List ℕ} {board : Board} {palette : List ℕ} → Given ws table board palette → Shows board (length palette) (puzzle ws)
 given_shows G = record { good = G.ready.good; stands = G.stands; hues_are = ap length G.palette_is }

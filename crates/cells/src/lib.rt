@@ -2,6 +2,7 @@
 #![tactic(auto)]
 
 pub mod covering;
+pub mod given;
 pub mod rule;
 pub mod section;
 mod support;

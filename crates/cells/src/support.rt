@@ -18,8 +18,8 @@ fn put_found(found: &[usize], out: &mut [i32], at: usize) -> usize
     ensures { Wrote (map positive found.now) out.old at out.new result }
 {
     let mut to = at;
-    for i in 0..found.len() {
-        out[to] = yes(found[i]);
+    for &u in found {
+        out[to] = yes(u);
         to += 1;
     }
     to
@@ -45,8 +45,8 @@ fn cell_space_clauses(found: &[usize], v: usize, out: &mut [i32], at: usize) -> 
     ensures { Wrote (clauses_words (ruled Space v found.now)) out.old at out.new result }
 {
     let mut to = at;
-    for i in 0..found.len() {
-        to = put_two(no(found[i]), yes(v), out, to);
+    for &u in found {
+        to = put_two(no(u), yes(v), out, to);
     }
     to
 }

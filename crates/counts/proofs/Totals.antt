@@ -26,7 +26,7 @@ use Rattle.cells.specs.Cells.{of_cells, point_once, precomputed_cells}
 use Rattle.cells.specs.declared.rule.Rule.TheVariants.{Color, Space}
 use Rattle.counts.specs.Families.{families, clauses, buffer, counts_of}
 use Rattle.counts.specs.Formulas.{over_lines, units_by}
-use Rattle.counts.specs.Counted.{SideCounted, CellsCounted, Counted, numbers}
+use Rattle.counts.specs.Counted.{SideCounted, CellsCounted, SmallSums, summed, Counted, numbers}
 use Rattle.counts.specs.declared.total.Side.{Side}
 use Rattle.counts.specs.declared.total.Cells.{Cells}
 use Rattle.counts.specs.declared.total.Counts.{Counts}
@@ -185,26 +185,21 @@ module _ (z : Puzzle) (G : Good z) {b : Board} (S : Stands b z) where
     units_is = ue ∙ rw (me, S.colors_is) (sym (cells_units z G));
   }
 
-  pub cells_begin : (0 < b.first) × (b.first ≤ 135169)
+  cells_begin : (0 < b.first) × (b.first ≤ 135169)
   cells_begin = omega_first S.first_is (cells_first z G)
     where
       omega_first : {n m : ℕ} → n ≡ m → (m ≤ 135169) × (0 < m) → (0 < n) × (n ≤ 135169)
       omega_first e h = (omega (arith, e, h.1), omega (arith, e, h.0))
 
   -- the sums stay small
-  pub record SmallSums (columns rows : Side) (cells : Cells) : Type 0 where
-    pub positions : columns.positions + rows.positions ≤ 8192
-    pub twos : columns.once + rows.once + columns.overlap + rows.overlap + cells.space + cells.point ≤ 151531520
-    pub color : cells.color ≤ 253952
-    pub space : cells.space ≤ 532480
-    pub units : cells.units ≤ 126976
-
-  pub sums_small : {columns rows : Side} {cells : Cells} → SideCounted z 0 b.width columns → SideCounted z b.width b.height rows → CellsCounted z cells → SmallSums columns rows cells
+  pub sums_small : {columns rows : Side} {cells : Cells} → SideCounted z 0 b.width columns → SideCounted z b.width b.height rows → CellsCounted z cells → SmallSums b.first columns rows cells
   sums_small C R X =
       let C' = rw S.width_is at C in
       let R' = rw (S.width_is, S.height_is) at R in
       let small = counts_small z G in
       record {
+        first_some = cells_begin.0;
+        first_most = cells_begin.1;
         positions = omega (arith, C', R', small);
         twos = omega (arith, C', R', X, small);
         color = omega (arith, X, small);
@@ -212,17 +207,7 @@ module _ (z : Puzzle) (G : Good z) {b : Board} (S : Stands b z) where
         units = omega (arith, X, small);
       }
 
-  pub all_counted : {columns rows : Side} {cells : Cells} → SideCounted z 0 b.width columns → SideCounted z b.width b.height rows → CellsCounted z cells
-      → let twos = columns.once + rows.once + columns.overlap + rows.overlap + cells.space + cells.point in
-      let lits = b.first - 1 + 2 * twos + cells.color + cells.space + cells.units in
-      Counted z (record {
-        variables = b.first - 1 + cells.color / 2;
-        columns = columns;
-        rows = rows;
-        cells = cells;
-        literals = lits;
-        words = 10 + (columns.positions + rows.positions + twos + cells.color + cells.units) + lits;
-      })
+  pub all_counted : {columns rows : Side} {cells : Cells} → SideCounted z 0 b.width columns → SideCounted z b.width b.height rows → CellsCounted z cells → Counted z (summed b.first columns rows cells)
   unfolding variables
   all_counted {columns} {rows} {cells} C R X =
       let C' = rw S.width_is at C in

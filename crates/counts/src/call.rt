@@ -9,7 +9,8 @@ ghost use Rattle.counts.specs.Families.{counts_of};
 ghost use Rattle.counts.specs.Counted.{numbers};
 
 use crate::total::{Counts, count_all};
-use boards::board::{Board, Reading, read_puzzle};
+use boards::board::{Board, Reading as Read, read_puzzle};
+use numbering::reading::Reading;
 use refusals::{Answer, Refusal};
 use tables::layout::TABLE_SIZE;
 
@@ -41,7 +42,8 @@ fn write_counts(words: &[u32], table: &[u32], board: Board, out: &mut [u64]) -> 
     if out.len() < 13 {
         return Answer::Refused(Refusal::OutputTooShort(13));
     }
-    Answer::Accepted(put_counts(count_all(words, table, board), out))
+    let reading = Reading::new(words, table, board);
+    Answer::Accepted(put_counts(count_all(reading), out))
 }
 
 pub fn counts(words: &[u32], out: &mut [u64]) -> Answer
@@ -50,7 +52,7 @@ pub fn counts(words: &[u32], out: &mut [u64]) -> Answer
     let mut table = [0u32; TABLE_SIZE];
     let reading = read_puzzle(words, &mut table);
     match reading {
-        Reading::Refused(why) => Answer::Refused(why),
-        Reading::Read(board) => write_counts(words, &table, board, out),
+        Read::Refused(why) => Answer::Refused(why),
+        Read::Read(board) => write_counts(words, &table, board, out),
     }
 }

@@ -1,17 +1,13 @@
 // What is counted of the lines.
-ghost use Rattle.std.specs.Prelude.{◌≡◌, ◌+◌, ◌-◌, ◌*◌, ◌/◌, ◌≤◌, ◌<◌, length};
-ghost use Rattle.puzzles.specs.Puzzle.{lines};
-ghost use Rattle.puzzles.specs.Checks.{puzzle};
-ghost use Rattle.tables.specs.Layout.{line_size};
-ghost use Rattle.numbering.specs.Variables.{line_at, many};
-ghost use Rattle.numbering.specs.Tables.{Ready, Sound, line_of};
+ghost use Rattle.std.specs.Prelude.{◌≡◌, ◌+◌, ◌-◌, ◌*◌, ◌/◌, ◌≤◌, ◌<◌};
+ghost use Rattle.puzzles.specs.Puzzle as P;
+ghost use Rattle.numbering.specs.Variables.{many};
+ghost use Rattle.numbering.specs.Held.{line_in, puzzle_in};
 ghost use Rattle.counts.specs.Formulas.{cells_in, overlap_at, overlap_in, measured, over_lines};
 
 use crate::measure::Measure;
-use lists::wide;
-use numbering::line::{distance_of, positions_of};
-use tables::layout::LINE_SIZE;
-use tables::table::find_line;
+use numbering::line::Line;
+use numbering::reading::Lines;
 
 // The positions of two blocks that are in conflict: a triangle of them.
 fn pair_count(p: usize, d: usize) -> usize
@@ -26,76 +22,60 @@ fn pair_count(p: usize, d: usize) -> usize
 }
 
 // Those of block a with each later one.
-fn later_count(a: usize, line: &[u32], clue: &[u32]) -> usize
-    requires sound { Sound (line_of line.now clue.now) × (line_size ≤ length line.now) }
-    requires a_bound { a < many (line_of line.now clue.now) }
-    ensures { result ≡ overlap_at (line_of line.now clue.now) a }
+fn later_count(a: usize, line: Line) -> usize
+    requires { a < many (line_in line) }
+    ensures { result ≡ overlap_at (line_in line.entry) a }
 {
-    let p = positions_of(line);
+    let p = line.positions();
     let mut total = 0;
-    for k in 0..clue.len() / 2 - (a + 1) {
-        total += pair_count(p, distance_of(line, clue, a, a + 1 + k));
+    for k in 0..line.blocks() - (a + 1) {
+        total += pair_count(p, line.distance_of(a, a + 1 + k));
     }
     total
 }
 
-fn overlap_count(line: &[u32], clue: &[u32]) -> usize
-    requires { Sound (line_of line.now clue.now) × (line_size ≤ length line.now) }
-    ensures { result ≡ overlap_in (line_of line.now clue.now) }
+fn overlap_count(line: Line) -> usize
+    ensures { result ≡ overlap_in (line_in line.entry) }
 {
     let mut total = 0;
-    for a in 0..clue.len() / 2 {
-        total += later_count(a, line, clue);
+    for a in 0..line.blocks() {
+        total += later_count(a, line);
     }
     total
 }
 
-// The cells that the blocks of a clue have.
-fn size_count(line: &[u32], clue: &[u32]) -> usize
-    requires { Sound (line_of line.now clue.now) }
-    ensures { result ≡ cells_in (line_of line.now clue.now) }
+// The cells that its blocks have.
+fn size_count(line: Line) -> usize
+    ensures { result ≡ cells_in (line_in line.entry) }
 {
     let mut total = 0;
-    for b in 0..clue.len() / 2 {
-        total += wide(clue[2 * b]);
+    for b in 0..line.blocks() {
+        total += line.run_at(b).size;
     }
     total
 }
 
-fn line_count(measure: Measure, line: &[u32], clue: &[u32]) -> usize
-    requires { Sound (line_of line.now clue.now) × (line_size ≤ length line.now) }
-    ensures { result ≡ measured measure (line_of line.now clue.now) }
+fn line_count(measure: Measure, line: Line) -> usize
+    ensures { result ≡ measured measure (line_in line.entry) }
 {
-    let n = clue.len() / 2;
-    let p = positions_of(line);
+    let n = line.blocks();
+    let p = line.positions();
     match measure {
         Measure::Blocks => n,
         Measure::Once => n * (p * (p - 1) / 2),
-        Measure::Overlap => overlap_count(line, clue),
-        Measure::Space => p * size_count(line, clue),
+        Measure::Overlap => overlap_count(line),
+        Measure::Space => p * size_count(line),
     }
 }
 
-// Of line l.
-fn count_line(measure: Measure, words: &[u32], table: &[u32], l: usize) -> usize
-    requires { Ready words.now table.now × (l < lines (puzzle words.now)) }
-    ensures { result ≡ measured measure (line_at (puzzle words.now) l) }
-{
-    let parts = find_line(words, table, l);
-    let line = parts.line;
-    let begin = parts.begin;
-    let end = parts.end;
-    line_count(measure, &table[line..line + LINE_SIZE], &words[begin..end])
-}
-
 // Of n lines from line l on.
-pub fn count_lines(measure: Measure, words: &[u32], table: &[u32], l: usize, n: usize) -> usize
-    requires { Ready words.now table.now × (l + n ≤ lines (puzzle words.now)) }
-    ensures { result ≡ over_lines (puzzle words.now) measure l n }
+pub fn count_lines(measure: Measure, lines: Lines, l: usize, n: usize) -> usize
+    requires { l + n ≤ P.lines (puzzle_in lines) }
+    ensures { result ≡ over_lines (puzzle_in lines.entry) measure l n }
 {
     let mut total = 0;
     for k in 0..n {
-        total += count_line(measure, words, table, l + k);
+        total += line_count(measure, lines.line(l + k));
     }
     total
 }

@@ -1,15 +1,13 @@
 // The counts of a whole puzzle.
-ghost use Rattle.std.specs.Prelude.{◌+◌, ◌≤◌};
+ghost use Rattle.std.specs.Prelude.{◌≡◌, ◌+◌, ◌≤◌};
 ghost use Rattle.puzzles.specs.Puzzle as P;
-ghost use Rattle.puzzles.specs.Checks.{puzzle};
-ghost use Rattle.boards.specs.Reading.{Stands};
-ghost use Rattle.numbering.specs.Tables.{Ready};
-ghost use Rattle.counts.specs.Counted.{SideCounted, CellsCounted, Counted};
+ghost use Rattle.numbering.specs.Held.{puzzle_in, puzzle_read};
+ghost use Rattle.counts.specs.Counted.{SideCounted, CellsCounted, SmallSums, summed, Counted};
 
 use crate::line::count_lines;
 use crate::measure::Measure;
 use crate::units::count_units;
-use boards::board::Board;
+use numbering::reading::{Lines, Reading};
 
 // The clauses of the columns, or of the rows.
 #[derive(Clone, Copy)]
@@ -39,13 +37,13 @@ pub struct Counts {
 }
 
 // Of n lines from line l on.
-fn count_side(words: &[u32], table: &[u32], l: usize, n: usize) -> Side
-    requires { Ready words.now table.now × (l + n ≤ P.lines (puzzle words.now)) }
-    ensures { SideCounted (puzzle words.now) l n result }
+fn count_side(lines: Lines, l: usize, n: usize) -> Side
+    requires { l + n ≤ P.lines (puzzle_in lines) }
+    ensures { SideCounted (puzzle_in lines.entry) l n result }
 {
-    let positions = count_lines(Measure::Blocks, words, table, l, n);
-    let once = count_lines(Measure::Once, words, table, l, n);
-    let overlap = count_lines(Measure::Overlap, words, table, l, n);
+    let positions = count_lines(Measure::Blocks, lines, l, n);
+    let once = count_lines(Measure::Once, lines, l, n);
+    let overlap = count_lines(Measure::Overlap, lines, l, n);
     Side {
         positions,
         once,
@@ -53,14 +51,14 @@ fn count_side(words: &[u32], table: &[u32], l: usize, n: usize) -> Side
     }
 }
 
-fn count_cells(words: &[u32], table: &[u32], board: Board) -> Cells
-    requires { Ready words.now table.now × Stands board (puzzle words.now) }
-    ensures { CellsCounted (puzzle words.now) result }
+fn count_cells(reading: Reading) -> Cells
+    ensures { CellsCounted (puzzle_read reading.entry) result }
 {
+    let board = reading.board;
     let hues = u32::count_ones(board.colors) as usize;
     let area = board.width * board.height;
-    let space = count_lines(Measure::Space, words, table, 0, board.width + board.height);
-    let units = count_units(board.colors, &words[board.cells + 1..]);
+    let space = count_lines(Measure::Space, reading.lines, 0, board.width + board.height);
+    let units = count_units(board.colors, reading.masks());
     Cells {
         color: 2 * (area * hues),
         space,
@@ -70,14 +68,11 @@ fn count_cells(words: &[u32], table: &[u32], board: Board) -> Cells
 }
 
 // What the ten families have in all. Two literals to a clause, but for the first two families, 7 and 10.
-pub fn count_all(words: &[u32], table: &[u32], board: Board) -> Counts
-    requires { Ready words.now table.now × Stands board (puzzle words.now) }
-    ensures { Counted (puzzle words.now) result }
+fn summed(first: usize, columns: Side, rows: Side, cells: Cells) -> Counts
+    requires { SmallSums first columns rows cells }
+    ensures { result ≡ summed first columns rows cells }
 {
-    let columns = count_side(words, table, 0, board.width);
-    let rows = count_side(words, table, board.width, board.height);
-    let cells = count_cells(words, table, board);
-    let positions = board.first - 1;
+    let positions = first - 1;
     let twos = columns.once
         + rows.once
         + columns.overlap
@@ -94,4 +89,14 @@ pub fn count_all(words: &[u32], table: &[u32], board: Board) -> Counts
         literals,
         words: 10 + clauses + literals,
     }
+}
+
+pub fn count_all(reading: Reading) -> Counts
+    ensures { Counted (puzzle_read reading.entry) result }
+{
+    let board = reading.board;
+    let columns = count_side(reading.lines, 0, board.width);
+    let rows = count_side(reading.lines, board.width, board.height);
+    let cells = count_cells(reading);
+    summed(board.first, columns, rows, cells)
 }

@@ -25,8 +25,8 @@ pub fn count_units(colors: u32, masks: &[u32]) -> usize
     ensures { result ≡ sum (length masks.now) (λ i. units_by colors (get_or masks.now i 0)) }
 {
     let mut total = 0;
-    for i in 0..masks.len() {
-        total += cell_units(colors, masks[i]);
+    for &mask in masks {
+        total += cell_units(colors, mask);
     }
     total
 }

@@ -1,5 +1,5 @@
 -- What a premise and an impact say of a cell, colour by colour, as it is written.
-use mathlib.Core.Path.{◌≡◌, ap, ◌∙◌}
+use mathlib.Core.Path.{◌≡◌, refl, ap, ◌∙◌}
 use mathlib.Core.Bool.{Bool, true, false, cond}
 use mathlib.Core.List.{List, [], ◌∷◌, ◌++◌, map, flat_map}
 use Prim.Native.Nat.{ℕ, ◌+◌, ◌≤◌, ◌<◌}
@@ -9,7 +9,9 @@ use native.Mathlib.Decide.{ℕ_discrete}
 use lib.IntN.{ℤ, pos}
 use lib.Dec.{eqb}
 use lib.ListN.{length, set, get_or, length-append, length-set}
+use lib.Seq.{drop-drop}
 use borrow.Author.Tests.{eq-eqb, ne_eqb}
+use borrow.Rule.Slice.PartMut.{put_mid}
 use Rattle.lists.specs.Each.{each, tab, when}
 use Rattle.lists.specs.Wrote.{Wrote}
 use Rattle.lists.proofs.Parts.{each_most}
@@ -66,18 +68,25 @@ module _ (premise : Clause) (l : ℤ) (out : List ℤ) (at : ℕ) (room : at + l
   unfolding clause_words
   clause_room = omega (arith, length-append premise (l ∷ []), room)
 
-  module _ (a : ℤ) {out₁ : List ℤ} {to : ℕ} (w : Wrote premise (set out at a) (at + 1) out₁ to) where
-    pub literal_room : to < length out₁
-    literal_room =
-        let k : length (set out at a) ≡ length out = simp length-set in
-        omega (arith, w.next_is, wrote_kept (omega (arith, clause_room)) w, clause_room)
+  -- its count, the premise and then the literal
+  module _ (a : ℤ) {part : List ℤ} (q : part ≡ premise) {k : ℕ} (n : k ≡ length premise) where
+    abbrev copied : List ℤ
+    copied = put_mid (at + 1) k (set out at a) part
 
-    pub clause_wrote : a ≡ pos (length premise + 1) → Wrote (clause_words (premise ++ (l ∷ []))) out at (set out₁ to l) (to + 1)
+    set_kept : length (set out at a) ≡ length out
+    set_kept = simp length-set
+
+    copy_wrote : Wrote premise (set out at a) (at + 1) copied (at + 1 + length premise)
+    copy_wrote = record { next_is = refl; left = rw (q, n, drop-drop) }
+
+    pub literal_room : at + 1 + length premise < length copied
+    literal_room = omega (arith, clause_room, set_kept, wrote_kept (omega (arith, clause_room, set_kept)) copy_wrote)
+
+    pub clause_wrote : a ≡ pos (length premise + 1) → Wrote (clause_words (premise ++ (l ∷ []))) out at (set copied (at + 1 + length premise) l) (at + 1 + length premise + 1)
     unfolding clause_words
     clause_wrote e =
-        let k : length (set out at a) ≡ length out = simp length-set in
-        let n : a ≡ pos (length (premise ++ (l ∷ []))) = e ∙ ap pos (omega (arith, length-append premise (l ∷ []))) in
-        rw (← n) (wrote_after out at a (omega (arith, clause_room)) (wrote_then (omega (arith, clause_room)) w (wrote_store out₁ to l literal_room)))
+        let c : a ≡ pos (length (premise ++ (l ∷ []))) = e ∙ ap pos (omega (arith, length-append premise (l ∷ []))) in
+        rw (← c) (wrote_after out at a (omega (arith, clause_room)) (wrote_then (omega (arith, clause_room, set_kept)) copy_wrote (wrote_store copied (at + 1 + length premise) l literal_room)))
 
 -- ---- an impact
 

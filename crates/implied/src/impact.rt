@@ -7,18 +7,6 @@ ghost use Rattle.implied.specs.Implications.{implied, impact_of};
 
 use literals::{count_word, no, yes};
 
-fn copy(literals: &[i32], out: &mut [i32], at: usize) -> usize
-    requires { at + length literals.now ≤ length out.old }
-    ensures { Wrote literals.now out.old at out.new result }
-{
-    let mut to = at;
-    for i in 0..literals.len() {
-        out[to] = literals[i];
-        to += 1;
-    }
-    to
-}
-
 // The clause of a premise and one literal.
 fn put_clause(premise: &[i32], literal: i32, out: &mut [i32], at: usize) -> usize
     requires premise_len_bound { length premise.now < 2147483647 }
@@ -26,7 +14,8 @@ fn put_clause(premise: &[i32], literal: i32, out: &mut [i32], at: usize) -> usiz
     ensures { Wrote (clause_words (premise.now ++ (literal ∷ []))) out.old at out.new result }
 {
     out[at] = count_word(premise.len() + 1);
-    let to = copy(premise, out, at + 1);
+    let to = at + 1 + premise.len();
+    out[at + 1..to].copy_from_slice(premise);
     out[to] = literal;
     to + 1
 }
@@ -67,8 +56,8 @@ pub fn put_impact(
     ensures { Wrote (clauses_words (impact_of palette.now premise.now v color)) out.old at out.new result }
 {
     let mut to = at;
-    for r in 0..palette.len() {
-        to = impact_clause(premise, color, palette[r], v + r, out, to);
+    for (r, &hue) in palette.iter().enumerate() {
+        to = impact_clause(premise, color, hue, v + r, out, to);
     }
     to
 }

@@ -38,8 +38,8 @@ pub fn put_premise(color: u32, palette: &[u32], v: usize, out: &mut [i32]) -> us
     ensures { Wrote (premise_of palette.now v color) out.old 0 out.new result }
 {
     let mut to = 0;
-    for r in 0..palette.len() {
-        to = put_literal(color, palette[r], v + r, out, to);
+    for (r, &hue) in palette.iter().enumerate() {
+        to = put_literal(color, hue, v + r, out, to);
     }
     to
 }

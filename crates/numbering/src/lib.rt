@@ -2,6 +2,7 @@
 #![tactic(auto)]
 
 pub mod line;
+pub mod reading;
 
 ghost use Rattle.std.specs.Prelude.{◌≤◌, length};
 ghost use Rattle.lists.specs.Wrote.{Wrote};

@@ -8,21 +8,19 @@ ghost use Rattle.cells.specs.Given.{Shows};
 ghost use Rattle.points.specs.Points.{column_once};
 
 use boards::board::Board;
+use cells::given::Shown;
 use literals::count_word;
 use sections::at_most_one;
 
-// Of column x, on a board of k colours.
-fn point_once_clauses(board: Board, k: usize, x: usize, out: &mut [i32], at: usize) -> usize
-    requires shows { (z : Puzzle) × Shows board k z }
-    requires x_lt_width { x < board.width }
-    requires x_in_bounds { at + length (clauses_words (column_once board k x)) ≤ length out.old }
-    ensures { Wrote (clauses_words (column_once board k x)) out.old at out.new result }
+// Of column x.
+fn point_once_clauses(shown: Shown, x: usize, out: &mut [i32], at: usize) -> usize
+    requires x_lt_width { x < shown.board.width }
+    requires x_in_bounds { at + length (clauses_words (column_once shown.board shown.hues x)) ≤ length out.old }
+    ensures { Wrote (clauses_words (column_once shown.board shown.hues x)) out.old at out.new result }
 {
-    let width = board.width;
-    let first = board.first;
     let mut to = at;
-    for y in 0..board.height {
-        to = at_most_one(first + (y * width + x) * k, k, out, to);
+    for y in 0..shown.board.height {
+        to = at_most_one(shown.cell_first(x, y), shown.hues, out, to);
     }
     to
 }
@@ -33,10 +31,11 @@ pub fn write_points(board: Board, k: usize, count: usize, out: &mut [i32]) -> us
     requires count_bound { count < 2147483648 }
     ensures { (z : Puzzle) → Shows board k z → Wrote (section_words (point_once z)) out.old 0 out.new result }
 {
+    let shown = Shown { board, hues: k };
     out[0] = count_word(count);
     let mut to = 1;
     for x in 0..board.width {
-        to = point_once_clauses(board, k, x, out, to);
+        to = point_once_clauses(shown, x, out, to);
     }
     to
 }

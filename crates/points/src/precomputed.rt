@@ -50,8 +50,8 @@ fn precomputed_cell(mask: u32, palette: &[u32], v: usize, out: &mut [i32], at: u
     ensures { Wrote (clauses_words (of_mask palette.now mask v)) out.old at out.new result }
 {
     let mut to = at;
-    for r in 0..palette.len() {
-        to = precomputed_color(mask, palette[r], v + r, out, to);
+    for (r, &color) in palette.iter().enumerate() {
+        to = precomputed_color(mask, color, v + r, out, to);
     }
     to
 }
@@ -70,8 +70,8 @@ fn precomputed_cells_clauses(
 {
     let k = palette.len();
     let mut to = at;
-    for i in 0..masks.len() {
-        to = precomputed_cell(masks[i], palette, v + i * k, out, to);
+    for (i, &mask) in masks.iter().enumerate() {
+        to = precomputed_cell(mask, palette, v + i * k, out, to);
     }
     to
 }

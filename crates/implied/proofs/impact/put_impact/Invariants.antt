@@ -1,6 +1,5 @@
 use mathlib.Core.List.{[], ◌∷◌, ◌++◌, map}
-use mathlib.Core.Path.{◌≡◌}
-use Prim.Native.Nat.{◌+◌, ◌-◌}
+use Prim.Native.Nat.{◌+◌}
 use lib.ListN.{length, get_or}
 use Rattle.lists.proofs.Emitting.{Emitting}
 use Rattle.sections.specs.Sections.{clauses_words}
@@ -8,7 +7,4 @@ use Rattle.implied.specs.Implications.{implied}
 use Rattle.implied.proofs.impact.put_impact.Given as goal
 
 abbrev pub invariant-loop-r : goal.invariant-loop-r
-invariant-loop-r s = (s.r-end ≡ length s.palette) × Emitting (length s.palette) (λ k. clauses_words (map (λ l. s.premise ++ (l ∷ [])) (implied s.color (get_or s.palette k 0) (s.v + k)))) s.initial.out s.at s.out s.to s.r
-
-abbrev pub decreases-loop-r : goal.decreases-loop-r
-decreases-loop-r l = length l.palette - l.r
+invariant-loop-r s = Emitting (length s.palette) (λ k. clauses_words (map (λ l. s.premise ++ (l ∷ [])) (implied s.color (get_or s.palette k 0) (s.v + k)))) s.initial.out s.at s.out s.to s.r

@@ -1,12 +1,8 @@
-use mathlib.Core.Path.{◌≡◌}
-use Prim.Native.Nat.{◌+◌, ◌-◌}
+use Prim.Native.Nat.{◌+◌}
 use lib.ListN.{length, get_or}
 use Rattle.lists.proofs.Emitting.{Emitting}
 use Rattle.implied.specs.ByWords.{premise_at}
 use Rattle.implied.proofs.premise.put_premise.Given as goal
 
 abbrev pub invariant-loop-r : goal.invariant-loop-r
-invariant-loop-r l = (l.r-end ≡ length l.palette) × Emitting (length l.palette) (λ k. premise_at l.color (get_or l.palette k 0) (l.v + k)) l.initial.out 0 l.out l.to l.r
-
-abbrev pub decreases-loop-r : goal.decreases-loop-r
-decreases-loop-r l = length l.palette - l.r
+invariant-loop-r l = Emitting (length l.palette) (λ k. premise_at l.color (get_or l.palette k 0) (l.v + k)) l.initial.out 0 l.out l.to l.r

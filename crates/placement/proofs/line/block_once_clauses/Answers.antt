@@ -1,35 +1,22 @@
-use Prim.Native.Nat.{◌+◌, ◌*◌}
 use native.Mathlib.Omega.{arith}
-use Rattle.lists.proofs.Emitting.{emit_room, emit_next, emit_kept}
-use Rattle.placement.proofs.BlockLoops.{InRange, in_range, once_first, once_done}
+use Rattle.lists.proofs.Emitting.{emit_room, emit_next}
+use Rattle.sections.specs.Sections.{at_most_one}
+use Rattle.sections.proofs.ClauseLists.{say_first, say_done}
+use Rattle.numbering.specs.Variables.{first_of}
+use Rattle.numbering.specs.Held.{line_in}
+use Rattle.placement.specs.Placement.{block_once}
 use Rattle.placement.proofs.line.block_once_clauses.Goals as goal
 
 pub loop-b-init : goal.loop-b-init
-loop-b-init c = once_first _ _ c.requires.sound.0 (c.first_of-first.ensures _) (c.positions_of-p.ensures _) _ _ c.requires.clue_in_bounds
-
-pub overflow_mul-b : goal.overflow_mul-b
-overflow_mul-b c =
-    let in_block = in_range _ _ c.requires.sound.0 (c.first_of-first.ensures _) (c.positions_of-p.ensures _) _ c.loop-b-test.true in
-    omega (arith, in_block)
-
-pub overflow_add-first : goal.overflow_add-first
-overflow_add-first c =
-    let in_block = in_range _ _ c.requires.sound.0 (c.first_of-first.ensures _) (c.positions_of-p.ensures _) _ c.loop-b-test.true in
-    omega (arith, in_block)
-
-pub at_most_one-to-requires-clause-v_nonzero : goal.at_most_one-to-requires-clause-v_nonzero
-at_most_one-to-requires-clause-v_nonzero c =
-    let in_block = in_range _ _ c.requires.sound.0 (c.first_of-first.ensures _) (c.positions_of-p.ensures _) _ c.loop-b-test.true in
-    in_block
+unfolding block_once
+loop-b-init c = say_first _ (λ b. at_most_one (first_of (line_in c.args.line) b) (line_in c.args.line).positions) _ _ c.requires
 
 pub at_most_one-to-requires-clause-n_in_bounds : goal.at_most_one-to-requires-clause-n_in_bounds
-at_most_one-to-requires-clause-n_in_bounds c = emit_room c.loop-b.invariant c.loop-b-test.true
+at_most_one-to-requires-clause-n_in_bounds c = rw (c.block_first.ensures.value, c.positions-p.ensures) (emit_room c.loop-b.invariant (omega arith))
 
 pub loop-b-preserved : goal.loop-b-preserved
-loop-b-preserved c = emit_next c.loop-b.invariant c.loop-b-test.true c.at_most_one-to.ensures
-
-pub shape_of-out : goal.shape_of-out
-shape_of-out c = emit_kept c.loop-b.invariant
+loop-b-preserved c = emit_next c.loop-b.invariant (omega arith) (rw (c.block_first.ensures.value, c.positions-p.ensures) at c.at_most_one-to.ensures)
 
 pub returns : goal.returns
-returns c = once_done _ _ c.requires.sound.0 (c.first_of-first.ensures _) (c.positions_of-p.ensures _) c.loop-b.invariant c.loop-b-test.false
+unfolding block_once
+returns c = say_done _ (λ b. at_most_one (first_of (line_in c.args.line) b) (line_in c.args.line).positions) c.loop-b.invariant (omega arith)

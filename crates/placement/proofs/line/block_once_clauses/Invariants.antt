@@ -1,11 +1,8 @@
-use Prim.Native.Nat.{◌+◌, ◌-◌, ◌*◌, ◌/◌}
-use lib.ListN.{length}
 use Rattle.lists.proofs.Emitting.{Emitting}
 use Rattle.sections.specs.Sections.{clauses_words, at_most_one}
+use Rattle.numbering.specs.Variables.{many, first_of}
+use Rattle.numbering.specs.Held.{line_in}
 use Rattle.placement.proofs.line.block_once_clauses.Given as goal
 
 abbrev pub invariant-loop-b : goal.invariant-loop-b
-invariant-loop-b l = Emitting (length l.clue / 2) (λ k. clauses_words (at_most_one (l.first + k * l.p) l.p)) l.initial.out l.at l.out l.to l.b
-
-abbrev pub decreases-loop-b : goal.decreases-loop-b
-decreases-loop-b l = length l.clue / 2 - l.b
+invariant-loop-b l = Emitting (many (line_in l.fn.line)) (λ k. clauses_words (at_most_one (first_of (line_in l.fn.line) k) (line_in l.fn.line).positions)) l.fn.out l.fn.at l.out l.to l.b

@@ -1,29 +1,17 @@
 use Rattle.placement.specs.Placement.{ruled}
 use Rattle.placement.proofs.line.line_clauses.Goals as goal
 
-pub block_positions_clauses-requires-clause-sound : goal.block_positions_clauses-requires-clause-sound
+pub block_positions_clauses-requires : goal.block_positions_clauses-requires
 unfolding ruled
-block_positions_clauses-requires-clause-sound c = c.requires.sound
+block_positions_clauses-requires c = rw c.in-Positions.is at c.requires
 
-pub block_positions_clauses-requires-clause-clue_in_bounds : goal.block_positions_clauses-requires-clause-clue_in_bounds
+pub block_once_clauses-requires : goal.block_once_clauses-requires
 unfolding ruled
-block_positions_clauses-requires-clause-clue_in_bounds c = rw c.in-Positions.is at c.requires.clue_in_bounds
+block_once_clauses-requires c = rw c.in-Once.is at c.requires
 
-pub block_once_clauses-requires-clause-sound : goal.block_once_clauses-requires-clause-sound
+pub non_overlap_clauses-requires : goal.non_overlap_clauses-requires
 unfolding ruled
-block_once_clauses-requires-clause-sound c = c.requires.sound
-
-pub block_once_clauses-requires-clause-clue_in_bounds : goal.block_once_clauses-requires-clause-clue_in_bounds
-unfolding ruled
-block_once_clauses-requires-clause-clue_in_bounds c = rw c.in-Once.is at c.requires.clue_in_bounds
-
-pub non_overlap_clauses-requires-clause-sound : goal.non_overlap_clauses-requires-clause-sound
-unfolding ruled
-non_overlap_clauses-requires-clause-sound c = c.requires.sound
-
-pub non_overlap_clauses-requires-clause-clue_in_bounds : goal.non_overlap_clauses-requires-clause-clue_in_bounds
-unfolding ruled
-non_overlap_clauses-requires-clause-clue_in_bounds c = rw c.in-Overlap.is at c.requires.clue_in_bounds
+non_overlap_clauses-requires c = rw c.in-Overlap.is at c.requires
 
 pub returns-in-Positions : goal.returns-in-Positions
 unfolding ruled

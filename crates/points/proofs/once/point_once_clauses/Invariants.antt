@@ -1,10 +1,8 @@
-use Prim.Native.Nat.{◌+◌, ◌-◌, ◌*◌}
+use mathlib.Core.Path.{◌≡◌}
 use Rattle.lists.proofs.Emitting.{Emitting}
 use Rattle.sections.specs.Sections.{clauses_words, at_most_one}
+use Rattle.cells.specs.Held.{cell_at}
 use Rattle.points.proofs.once.point_once_clauses.Given as goal
 
 abbrev pub invariant-loop-y : goal.invariant-loop-y
-invariant-loop-y l = Emitting l.y-end (λ j. clauses_words (at_most_one (l.first + (j * l.width + l.x) * l.k) l.k)) l.initial.out l.at l.out l.to l.y
-
-abbrev pub decreases-loop-y : goal.decreases-loop-y
-decreases-loop-y l = l.y-end - l.y
+invariant-loop-y l = (l.y-end ≡ l.shown.board.height) × Emitting l.shown.board.height (λ y. clauses_words (at_most_one (cell_at l.shown.board l.shown.hues l.x y) l.shown.hues)) l.initial.out l.at l.out l.to l.y

@@ -1,5 +1,4 @@
-use Rattle.lists.proofs.Emitting.{emit_kept, emit_room, emit_next}
-use lib.ListN.{length-set}
+use Rattle.lists.proofs.Emitting.{emit_room, emit_next}
 use Rattle.points.proofs.PointCells.{once_same, columns_once}
 use mathlib.Core.Path.{refl, ap, ◌∙◌}
 use native.Mathlib.Omega.{arith}
@@ -14,20 +13,11 @@ bounds-out-0 c = count_room _ _ c.requires.shows.3
 pub loop-x-init : goal.loop-x-init
 loop-x-init c = (refl, count_first _ _ (columns_once c.requires.shows.1) c.args.out.now c.requires.shows.3 _)
 
-pub point_once_clauses-to-requires-clause-shows : goal.point_once_clauses-to-requires-clause-shows
-point_once_clauses-to-requires-clause-shows c = (c.requires.shows.0, c.requires.shows.1)
-
-pub point_once_clauses-to-requires-clause-x_lt_width : goal.point_once_clauses-to-requires-clause-x_lt_width
-point_once_clauses-to-requires-clause-x_lt_width c = omega arith
-
 pub point_once_clauses-to-requires-clause-x_in_bounds : goal.point_once_clauses-to-requires-clause-x_in_bounds
 point_once_clauses-to-requires-clause-x_in_bounds c = emit_room c.loop-x.invariant.1 (omega arith)
 
 pub loop-x-preserved : goal.loop-x-preserved
 loop-x-preserved c = (c.loop-x.invariant.0, emit_next c.loop-x.invariant.1 (omega arith) c.point_once_clauses-to.ensures)
-
-pub shape_of-out : goal.shape_of-out
-shape_of-out c = emit_kept c.loop-x.invariant.1 ∙ simp length-set
 
 pub returns : goal.returns
 returns c = λ z S. rw (once_same c.requires.shows.1 S) at (count_done _ _ (columns_once c.requires.shows.1) c.args.out.now c.requires.shows.3 _ (word_is c.count_word.result c.count_word.type_inv ∙ c.count_word.ensures ∙ ap pos c.requires.shows.2) c.loop-x.invariant.1 (omega arith))

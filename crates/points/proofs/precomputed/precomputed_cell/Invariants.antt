@@ -1,5 +1,4 @@
-use mathlib.Core.Path.{◌≡◌}
-use Prim.Native.Nat.{◌+◌, ◌-◌}
+use Prim.Native.Nat.{◌+◌}
 use lib.ListN.{length, get_or}
 use Rattle.lists.proofs.Emitting.{Emitting}
 use Rattle.sections.specs.Sections.{clauses_words}
@@ -7,7 +6,4 @@ use Rattle.cells.specs.Cells.{precomputed}
 use Rattle.points.proofs.precomputed.precomputed_cell.Given as goal
 
 abbrev pub invariant-loop-r : goal.invariant-loop-r
-invariant-loop-r l = (l.r-end ≡ length l.palette) × Emitting (length l.palette) (λ k. clauses_words (precomputed l.mask (get_or l.palette k 0) (l.v + k))) l.initial.out l.at l.out l.to l.r
-
-abbrev pub decreases-loop-r : goal.decreases-loop-r
-decreases-loop-r l = length l.palette - l.r
+invariant-loop-r l = Emitting (length l.palette) (λ k. clauses_words (precomputed l.mask (get_or l.palette k 0) (l.v + k))) l.initial.out l.at l.out l.to l.r

@@ -1,5 +1,4 @@
-use mathlib.Core.Path.{◌≡◌}
-use Prim.Native.Nat.{◌+◌, ◌-◌, ◌*◌}
+use Prim.Native.Nat.{◌+◌, ◌*◌}
 use lib.ListN.{length, get_or}
 use Rattle.lists.proofs.Emitting.{Emitting}
 use Rattle.sections.specs.Sections.{clauses_words}
@@ -7,7 +6,4 @@ use Rattle.points.specs.Points.{of_mask}
 use Rattle.points.proofs.precomputed.precomputed_cells_clauses.Given as goal
 
 abbrev pub invariant-loop-i : goal.invariant-loop-i
-invariant-loop-i l = (l.i-end ≡ length l.masks) × Emitting (length l.masks) (λ j. clauses_words (of_mask l.palette (get_or l.masks j 0) (l.v + j * length l.palette))) l.initial.out l.at l.out l.to l.i
-
-abbrev pub decreases-loop-i : goal.decreases-loop-i
-decreases-loop-i l = length l.masks - l.i
+invariant-loop-i l = Emitting (length l.masks) (λ j. clauses_words (of_mask l.palette (get_or l.masks j 0) (l.v + j * length l.palette))) l.initial.out l.at l.out l.to l.i
