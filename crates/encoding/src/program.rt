@@ -7,7 +7,7 @@ ghost use Rattle.puzzles.specs.Checks.{puzzle};
 ghost use Rattle.encoding.specs.Encode.{words_of, input_checks, text_of, words_checks, bytes_checks, encoded};
 
 use crate::refused::put_refused;
-use crate::words::{read_words, word_buffer};
+use crate::words::read_words;
 use clauses::call::clauses;
 use counts::call::counts;
 use dimacs::call::dimacs;
@@ -16,6 +16,9 @@ use refusals::{Answer, Refusal};
 
 // The most bytes that it takes, and the most that it writes.
 const BYTES: usize = 65536;
+
+// As many words as they hold.
+const WORDS: usize = 16384;
 
 // The sections of a clause buffer.
 const SECTIONS: usize = 10;
@@ -65,7 +68,7 @@ fn write_input(input: &[u8], out: &mut [u8]) -> Answer
     let Answer::Accepted(_) = checked else {
         return checked;
     };
-    let mut words = word_buffer();
+    let mut words = [0; WORDS];
     let n = read_words(input, &mut words);
     write_puzzle(&words[..n], out)
 }

@@ -11,13 +11,13 @@ pub returns-in_default : goal.returns-in_default
 returns-in_default c = answers_refused _ _ c.in_default.is (input_refused c.args.input.now c.in_default.is c.check_input-checked.ensures)
 
 pub read_words-n-requires : goal.read_words-n-requires
-read_words-n-requires c = omega (arith, input_few c.args.input.now c.in-Accepted.is c.check_input-checked.ensures, c.word_buffer-words.ensures)
+read_words-n-requires c = omega (arith, input_few c.args.input.now c.in-Accepted.is c.check_input-checked.ensures)
 
 pub slice_bounds-words-end : goal.slice_bounds-words-end
-slice_bounds-words-end c = omega (arith, input_few c.args.input.now c.in-Accepted.is c.check_input-checked.ensures, words_count c.args.input.now c.read_words-n.ensures, c.read_words-n.auto.out, c.word_buffer-words.ensures)
+slice_bounds-words-end c = omega (arith, input_few c.args.input.now c.in-Accepted.is c.check_input-checked.ensures, words_count c.args.input.now c.read_words-n.ensures, c.read_words-n.auto.out)
 
 pub slice_bounds-write_puzzle-end : goal.slice_bounds-write_puzzle-end
-slice_bounds-write_puzzle-end c = sym (length-take-le _ _ (omega (arith, input_few c.args.input.now c.in-Accepted.is c.check_input-checked.ensures, words_count c.args.input.now c.read_words-n.ensures, c.read_words-n.auto.out, c.word_buffer-words.ensures)))
+slice_bounds-write_puzzle-end c = sym (length-take-le _ _ (omega (arith, input_few c.args.input.now c.in-Accepted.is c.check_input-checked.ensures, words_count c.args.input.now c.read_words-n.ensures, c.read_words-n.auto.out)))
 
 pub returns : goal.returns
 returns c = input_answers c.args.input.now c.in-Accepted.is c.check_input-checked.ensures (front_is c.read_words-n.ensures) c.write_puzzle.ensures
