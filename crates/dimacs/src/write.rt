@@ -5,7 +5,7 @@ ghost use Rattle.formulas.specs.Clauses.{AreVariables, Formed, clauses_in};
 ghost use Rattle.dimacs.specs.Text.{literal_text, clause_text, clauses_text, header};
 
 use crate::digits::put_number;
-use formulas::word::count;
+use formulas::clauses::Clauses;
 use lists::wide;
 use literals::Literal;
 
@@ -37,24 +37,13 @@ fn put_clause(clause: &[i32], out: &mut [u8], at: usize) -> usize
     to + 2
 }
 
-// The walk of `count_lines`.
 pub fn put_lines(words: &[i32], out: &mut [u8], at: usize) -> usize
     requires { Formed words.now × (at + length (clauses_text (clauses_in words.now)) ≤ length out.old) }
     ensures { Wrote (clauses_text (clauses_in words.now)) out.old at out.new result }
 {
     let mut to = at;
-    let mut left = 0;
-    let mut i = 0;
-    while i < words.len() {
-        let n = count(words[i]);
-        i += 1;
-        if left == 0 {
-            left = n;
-            continue;
-        }
-        to = put_clause(&words[i..i + n], out, to);
-        left -= 1;
-        i += n;
+    for clause in Clauses::of(words) {
+        to = put_clause(clause, out, to);
     }
     to
 }
