@@ -2,7 +2,7 @@ use native.Mathlib.Omega.{arith}
 use mathlib.Core.Path.{sym, ap, ◌∙◌}
 use lib.ListN.{length}
 use lib.Seq.{length-take-le}
-use Rattle.lists.proofs.Writing.{wrote_front}
+use Rattle.lists.proofs.Writing.{wrote_at_front}
 use Rattle.refusals.proofs.Answering.{answers_short, answers_wrote}
 use Rattle.counts.specs.Families.{counts_of}
 use Rattle.puzzles.specs.Checks.{puzzle}
@@ -20,4 +20,4 @@ returns c =
     let z = puzzle c.args.words.now in
     let copied = c.copy_from_slice.ensures.after ∙ c.numbers.ensures ∙ numbers_are _ c.count_all-counts.ensures ∙ ap counts_of c.new.ensures.puzzle in
     answers_wrote _ _ c.in_ok-board.ensures.checked (omega (arith, counts_length z, c.if-out-lt13.false))
-    (rw copied (wrote_front (counts_of z) c.args.out.now 13 (sym (counts_length z))))
+    (rw copied (wrote_at_front (counts_of z) c.args.out.now 13 (sym (counts_length z))))
