@@ -6,7 +6,7 @@ ghost use Rattle.dimacs.specs.Text.{literal_text, clause_text, clauses_text, hea
 
 use crate::digits::put_number;
 use formulas::clauses::Clauses;
-use lists::wide;
+use lists::{put_slice, wide};
 use literals::Literal;
 
 // Its sign and its variable.
@@ -32,9 +32,7 @@ fn put_clause(clause: &[i32], out: &mut [u8], at: usize) -> usize
         out[to] = b' ';
         to += 1;
     }
-    out[to] = b'0';
-    out[to + 1] = b'\n';
-    to + 2
+    put_slice(b"0\n", out, to)
 }
 
 pub fn put_lines(words: &[i32], out: &mut [u8], at: usize) -> usize
@@ -48,19 +46,14 @@ pub fn put_lines(words: &[i32], out: &mut [u8], at: usize) -> usize
     to
 }
 
+#[tactic(auto, using(crate::proofs::HeaderLine::header_long))]
 pub fn put_header(variables: usize, clauses: usize, out: &mut [u8]) -> usize
     requires { length (header variables clauses) ≤ length out.old }
     ensures { Wrote (header variables clauses) out.old 0 out.new result }
 {
-    out[0] = b'p';
-    out[1] = b' ';
-    out[2] = b'c';
-    out[3] = b'n';
-    out[4] = b'f';
-    out[5] = b' ';
-    let to = put_number(variables, out, 6);
-    out[to] = b' ';
-    let end = put_number(clauses, out, to + 1);
-    out[end] = b'\n';
-    end + 1
+    let at = put_slice(b"p cnf ", out, 0);
+    let to = put_number(variables, out, at);
+    let from = put_slice(b" ", out, to);
+    let end = put_number(clauses, out, from);
+    put_slice(b"\n", out, end)
 }
