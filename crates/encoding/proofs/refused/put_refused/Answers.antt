@@ -9,6 +9,6 @@ unfolding refused_text
 returns c =
     let k = digits_few c.args.number c.ranges.number.fits in
     let p = digits_few c.args.place c.ranges.place.fits in
-    let from_place = wrote_then (omega (arith, k, p)) c.put_number-end.ensures c.put_bytes.ensures in
-    let from_at = wrote_then (omega (arith, k, p)) c.put_bytes-from.ensures from_place in
-    (wrote_then (omega arith) c.put_bytes-at.ensures (wrote_then (omega (arith, k, p)) c.put_number-to.ensures from_at), omega (arith, k, p))
+    let from_place = wrote_then (omega (arith, k, p)) c.put_number-end.ensures c.put_slice.ensures in
+    let from_at = wrote_then (omega (arith, k, p)) c.put_slice-from.ensures from_place in
+    (wrote_then (omega arith) c.put_slice-at.ensures (wrote_then (omega (arith, k, p)) c.put_number-to.ensures from_at), omega (arith, k, p))
