@@ -5,9 +5,10 @@ use Prim.Native.Nat.{ℕ, ◌+◌}
 use native.Mathlib.Omega.{arith}
 use lib.IntN.{ℤ}
 use lib.ListN.{length}
+use Rattle.std.specs.Prelude.{Result}
 use Rattle.refusals.specs.Verdict.{Checks, accepted, refused, passed, and_then}
 use Rattle.refusals.specs.Outcome.{Answers}
-use Rattle.refusals.specs.declared.Answer.{Answer}
+use Rattle.refusals.specs.declared.Refusal.{Refusal}
 use Rattle.sections.specs.Sections.{Clause, clauses_words, section_words}
 use Rattle.puzzles.specs.Puzzle.{Puzzle, width, height}
 use Rattle.puzzles.specs.Checks.{colors, puzzle, puzzle_checks}
@@ -26,16 +27,16 @@ unfolding section_words
 section_needs cs e = omega arith
 
 -- what would be written matters only where the checks accept
-answers_same : {A : Type 0} {ws us out out' : List A} {a : Answer} (v : Checks) → (passed ≡ v → ws ≡ us) → Answers v ws out a out' → Answers v us out a out'
+answers_same : {A : Type 0} {ws us out out' : List A} {a : Result ℕ Refusal} (v : Checks) → (passed ≡ v → ws ≡ us) → Answers v ws out a out' → Answers v us out a out'
 answers_same (accepted u) e x = rw (e refl) at x
 answers_same (refused k p) e x = record { answer_is = x.answer_is; out_is = x.out_is }
 
-by_puzzle : (b : Board) (z : Puzzle) (us : List ℕ) (w h K : ℕ) → w ≡ width z → h ≡ height z → K ≡ colors z → {out out' : List ℤ} {a : Answer}
+by_puzzle : (b : Board) (z : Puzzle) (us : List ℕ) (w h K : ℕ) → w ≡ width z → h ≡ height z → K ≡ colors z → {out out' : List ℤ} {a : Result ℕ Refusal}
     → Answers (checks_on w h K us) (section_words (of_probes b (palette K) us)) out a out' → Answers (probe_checks z us) (section_words (of_probes b (palette (colors z)) us)) out a out'
 by_puzzle b z us w h K p q r x = rw (p, q, r) at x
 
 -- from the board to the puzzle
-pub answers_probes : {ws table : List ℕ} {b : Board} → Held ws table b → (us : List ℕ) {out out' : List ℤ} {a : Answer}
+pub answers_probes : {ws table : List ℕ} {b : Board} → Held ws table b → (us : List ℕ) {out out' : List ℤ} {a : Result ℕ Refusal}
     → Answers (checks_on b.width b.height b.colors us) (section_words (of_probes b (palette b.colors) us)) out a out'
     → Answers (and_then (puzzle_checks ws) (probe_checks (puzzle ws) us)) (section_words (implications (puzzle ws) (probes (puzzle ws) us))) out a out'
 answers_probes {ws} {table} {b} H us x =

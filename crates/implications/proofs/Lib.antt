@@ -1,3 +1,4 @@
+pub mod ClaimWords
 pub mod Counting
 pub mod Calling
 pub mod ProbeClauses

@@ -15,14 +15,14 @@ ghost use Rattle.implied.specs.ByWords.{of_probes};
 
 use crate::count::count_probes;
 use crate::write::write_probes;
-use boards::board::{Board, Reading, read_puzzle};
+use boards::board::{Board, read_puzzle};
 use numbering::palette;
 use probes::read::check_probes;
-use refusals::{Answer, Refusal};
+use refusals::Refusal;
 use tables::layout::TABLE_SIZE;
 
 // Once the probes are checked: 12, or the section.
-fn write_section(board: Board, probe: &[u32], out: &mut [i32]) -> Answer
+fn write_section(board: Board, probe: &[u32], out: &mut [i32]) -> Result<usize, Refusal>
     requires good { (z : Puzzle) × Good z × Stands board z }
     requires passed_value { passed ≡ checks_on board.width board.height board.colors probe.now }
     ensures { Answers passed (section_words (of_probes board (N.palette board.colors) probe.now)) out.old result out.new }
@@ -32,30 +32,24 @@ fn write_section(board: Board, probe: &[u32], out: &mut [i32]) -> Answer
     let size = count_probes(board, k, probe);
     let need = 1 + size.words;
     if out.len() < need {
-        return Answer::Refused(Refusal::OutputTooShort(need));
+        return Err(Refusal::OutputTooShort(need));
     }
-    Answer::Accepted(write_probes(probe, board, &colors[..k], size.clauses, out))
+    Ok(write_probes(probe, board, &colors[..k], size.clauses, out))
 }
 
 // Once the puzzle is read: the probes' refusals, and what follows.
-fn answer_probes(board: Board, probe: &[u32], out: &mut [i32]) -> Answer
+fn answer_probes(board: Board, probe: &[u32], out: &mut [i32]) -> Result<usize, Refusal>
     requires { (z : Puzzle) × Good z × Stands board z }
     ensures { Answers (checks_on board.width board.height board.colors probe.now) (section_words (of_probes board (N.palette board.colors) probe.now)) out.old result out.new }
 {
-    let checked = check_probes(board.width, board.height, board.colors, probe);
-    let Answer::Accepted(_) = checked else {
-        return checked;
-    };
+    check_probes(board.width, board.height, board.colors, probe)?;
     write_section(board, probe, out)
 }
 
-pub fn probes(words: &[u32], probe: &[u32], out: &mut [i32]) -> Answer
+pub fn probes(words: &[u32], probe: &[u32], out: &mut [i32]) -> Result<usize, Refusal>
     ensures { Answers (and_then (puzzle_checks words.now) (probe_checks (puzzle words.now) probe.now)) (section_words (implications (puzzle words.now) (P.probes (puzzle words.now) probe.now))) out.old result out.new }
 {
     let mut table = [0u32; TABLE_SIZE];
-    let reading = read_puzzle(words, &mut table);
-    match reading {
-        Reading::Refused(why) => Answer::Refused(why),
-        Reading::Read(board) => answer_probes(board, probe, out),
-    }
+    let board = read_puzzle(words, &mut table)?;
+    answer_probes(board, probe, out)
 }

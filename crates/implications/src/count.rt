@@ -6,6 +6,7 @@ ghost use Rattle.probes.specs.Probes.{is_color, checks_on};
 ghost use Rattle.implied.specs.ByWords.{of_probe, of_probes};
 ghost use Rattle.implications.specs.Sizes.{impact_count, impacts_count, ExtentIs};
 
+use crate::claims::claims;
 use bits::mask::has;
 use boards::board::Board;
 use lists::wide;
@@ -36,8 +37,8 @@ fn count_impacts(colors: u32, k: usize, impacts: &[u32]) -> usize
     ensures { result ≡ impacts_count colors impacts.now }
 {
     let mut total = 0;
-    for j in 0..impacts.len() / 3 {
-        total += impact_count(colors, k, impacts[3 * j + 2]);
+    for &[_, _, color] in claims(impacts) {
+        total += impact_count(colors, k, color);
     }
     total
 }

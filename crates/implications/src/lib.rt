@@ -2,5 +2,6 @@
 #![tactic(auto)]
 
 pub mod call;
+mod claims;
 mod count;
 mod write;

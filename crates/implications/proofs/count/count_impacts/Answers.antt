@@ -1,16 +1,26 @@
+use mathlib.Core.Path.{◌≡◌, ap, ◌∙◌}
+use mathlib.Core.List.{List}
+use Prim.Native.Nat.{ℕ, ◌+◌, ◌*◌}
 use native.Mathlib.Omega.{arith}
+use lib.ListN.{get_or}
 use Rattle.counts.proofs.Summing.{summing_next, summing_most}
+use Rattle.implications.specs.Sizes.{impact_count}
 use Rattle.implications.proofs.ProbeSizes.{counts_first, counts_done}
 use Rattle.implications.proofs.count.count_impacts.Goals as goal
+use Rattle.implications.proofs.count.count_impacts.Goals.{After-impact_count-total}
 
-pub loop-j-init : goal.loop-j-init
-loop-j-init c = counts_first c.args.colors c.args.impacts.now
+-- what is counted of the claim
+count_is : (c : After-impact_count-total) → c.impact_count-total.result ≡ impact_count c.args.colors (get_or c.args.impacts.now (3 * c.loop-color.color-index + 2) 0)
+count_is c = c.impact_count-total.ensures ∙ ap (λ (l : List ℕ). impact_count c.args.colors (get_or l 2 0)) (c.claims-color-items.ensures.claims c.loop-color.color-index (omega arith))
+
+pub loop-color-init : goal.loop-color-init
+loop-color-init c = counts_first c.args.colors c.args.impacts.now
 
 pub overflow_add-total : goal.overflow_add-total
-overflow_add-total c = omega (arith, summing_most c.loop-j.invariant c.loop-j-test.true c.impact_count-total.ensures, c.requires.1)
+overflow_add-total c = omega (arith, summing_most c.loop-color.invariant (omega arith) (count_is (goal.at.overflow_add-total c).After-impact_count-total))
 
-pub loop-j-preserved : goal.loop-j-preserved
-loop-j-preserved c = summing_next c.loop-j.invariant c.loop-j-test.true c.impact_count-total.ensures
+pub loop-color-preserved : goal.loop-color-preserved
+loop-color-preserved c = summing_next c.loop-color.invariant (omega arith) (count_is (goal.at.loop-color-preserved c).After-impact_count-total)
 
 pub returns : goal.returns
-returns c = counts_done c.args.colors c.args.impacts.now c.loop-j.invariant c.loop-j-test.false
+returns c = counts_done c.args.colors c.args.impacts.now c.loop-color.invariant (omega arith)

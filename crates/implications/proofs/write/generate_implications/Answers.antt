@@ -1,22 +1,17 @@
-use Rattle.implications.proofs.ProbeClauses.{premise_few, premise_taken, probe_impacts}
-use native.Mathlib.Omega.{arith}
-use Rattle.lists.proofs.Writing.{tail_is}
+use mathlib.Core.Path.{◌≡◌, ◌∙◌}
+use lib.ListN.{length}
+use Rattle.probes.specs.Words.{claim_at}
+use Rattle.implied.specs.ByWords.{first_of}
+use Rattle.implications.proofs.ProbeClauses.{probe_impacts}
 use Rattle.implications.proofs.write.generate_implications.Goals as goal
+use Rattle.implications.proofs.write.generate_implications.Goals.{After-cell_first-v}
 
-pub slice_bounds-premise-end : goal.slice_bounds-premise-end
-slice_bounds-premise-end c = omega (arith, premise_few c.args.board c.args.palette.now c.args.part.now c.first_of-v.ensures.0 c.put_premise-n.ensures, c.put_premise-n.auto.out, c.requires.probe_on_board.1)
-
-pub slice_bounds-put_impacts-end : goal.slice_bounds-put_impacts-end
-slice_bounds-put_impacts-end c = premise_taken c.args.board c.args.palette.now c.args.part.now c.first_of-v.ensures.0 c.put_premise-n.ensures
-
-pub put_impacts-requires-clause-shows : goal.put_impacts-requires-clause-shows
-put_impacts-requires-clause-shows c = c.requires.shows
-
-pub put_impacts-requires-clause-all_on_board : goal.put_impacts-requires-clause-all_on_board
-put_impacts-requires-clause-all_on_board c = (rw (tail_is c.args.part.now 4) c.requires.probe_on_board.0.impacts, omega (arith, premise_few c.args.board c.args.palette.now c.args.part.now c.first_of-v.ensures.0 c.put_premise-n.ensures, premise_taken c.args.board c.args.palette.now c.args.part.now c.first_of-v.ensures.0 c.put_premise-n.ensures, c.requires.probe_on_board.1))
+-- the first variable of the premise's cell
+first_is : (c : After-cell_first-v) → c.cell_first-v.result ≡ first_of c.args.painted.shown.board (length c.args.painted.palette.now) (claim_at c.args.part.now 0)
+first_is c = c.cell_first-v.ensures.value ∙ rw (c.args.painted.hues, c.wide.ensures, c.wide-2.ensures)
 
 pub put_impacts-requires-clause-impacts_in_bounds : goal.put_impacts-requires-clause-impacts_in_bounds
-put_impacts-requires-clause-impacts_in_bounds c = rw (probe_impacts c.args.board c.args.palette.now c.args.part.now c.first_of-v.ensures.0 c.put_premise-n.ensures) c.requires.part_in_bounds
+put_impacts-requires-clause-impacts_in_bounds c = rw (probe_impacts c.args.painted.shown.board c.args.painted.palette.now c.args.part.now (first_is (goal.at.put_impacts-requires-clause-impacts_in_bounds c).After-cell_first-v) c.put_premise-n.ensures) c.requires.part_in_bounds
 
 pub returns : goal.returns
-returns c = rw (probe_impacts c.args.board c.args.palette.now c.args.part.now c.first_of-v.ensures.0 c.put_premise-n.ensures) at c.put_impacts.ensures
+returns c = rw (probe_impacts c.args.painted.shown.board c.args.painted.palette.now c.args.part.now (first_is (goal.at.returns c).After-cell_first-v) c.put_premise-n.ensures) at c.put_impacts.ensures

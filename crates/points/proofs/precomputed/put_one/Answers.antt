@@ -1,18 +1,10 @@
-use native.Mathlib.Omega.{arith}
 use native.Mathlib.Numerals.{add-one}
 use lib.IntN.{pos}
-use lib.ListN.{length-set}
 use mathlib.Core.List.{[], ◌∷◌}
 use Rattle.lists.proofs.Writing.{wrote_sets}
 use Rattle.sections.specs.Sections.{clause_words}
 use Rattle.literals.proofs.Words.{word_is}
 use Rattle.points.proofs.precomputed.put_one.Goals as goal
-
-pub bounds-out-at : goal.bounds-out-at
-bounds-out-at c = simp length-set (omega arith)
-
-pub shape_of-out : goal.shape_of-out
-shape_of-out c = simp length-set
 
 pub returns : goal.returns
 returns c = unfold clause_words in rw (word_is c.args.a c.ranges.a.sfits, add-one c.args.at) (wrote_sets (pos 1 ∷ c.args.a ∷ []) c.args.out.now c.args.at c.requires)

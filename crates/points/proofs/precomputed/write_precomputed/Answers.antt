@@ -1,7 +1,6 @@
 use mathlib.Core.Path.{ap, ◌∙◌}
 use native.Mathlib.Omega.{arith}
 use lib.IntN.{pos}
-use lib.ListN.{length-set}
 use Rattle.literals.proofs.Words.{word_is}
 use Rattle.sections.proofs.Section.{count_room, clauses_room, section_wrote}
 use Rattle.points.proofs.PointCells.{cells_within, rows_are, masks_variables}
@@ -27,9 +26,6 @@ precomputed_cells_clauses-requires-clause-v_nonzero c = masks_variables c.requir
 
 pub precomputed_cells_clauses-requires-clause-v_in_bounds : goal.precomputed_cells_clauses-requires-clause-v_in_bounds
 precomputed_cells_clauses-requires-clause-v_in_bounds c = rw (← rows_are c.requires.masked) (clauses_room _ c.args.out.now c.requires.words_in_bounds _)
-
-pub shape_of-out : goal.shape_of-out
-shape_of-out c = c.precomputed_cells_clauses.auto.out ∙ simp length-set
 
 pub returns : goal.returns
 returns c = section_wrote _ _ c.requires.words_in_bounds _ (word_is c.count_word.result c.count_word.type_inv ∙ c.count_word.ensures ∙ ap pos c.requires.count_value.0) (rw (rows_are c.requires.masked) c.precomputed_cells_clauses.ensures)
