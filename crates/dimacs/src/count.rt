@@ -19,11 +19,7 @@ pub struct Extent {
 fn count_literal(l: Literal) -> usize
     ensures { result ≡ length (literal_text l.word) }
 {
-    let n = count_digits(wide(l.magnitude()));
-    if l.is_negative() {
-        return n + 1;
-    }
-    n
+    count_digits(wide(l.magnitude())) + usize::from(l.is_negative())
 }
 
 // A space behind each literal, then 0 and a newline.
