@@ -9,7 +9,7 @@ use formulas::clauses::Clauses;
 use lists::wide;
 use literals::Literal;
 
-// Of the lines behind the first.
+// Of the lines behind the first. One type with that of implications would not say the unit.
 #[derive(Clone, Copy)]
 pub struct Extent {
     pub clauses: usize,
