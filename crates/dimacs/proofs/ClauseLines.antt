@@ -6,6 +6,8 @@ use Prim.Native.Nat.{ℕ, suc, ◌+◌, ◌*◌, ◌≤◌, ◌<◌}
 use native.Mathlib.Omega.{arith}
 use lib.IntN.{ℤ, pos}
 use lib.ListN.{length, drop, get_or, set, length-append, length-set, drop_of_length-le}
+use Rattle.std.specs.Int.{from_bool}
+use Rattle.lists.specs.Each.{when}
 use Rattle.lists.specs.Wrote.{Wrote}
 use Rattle.lists.proofs.Dropping.{drop_one}
 use Rattle.lists.proofs.Writing.{Filling, fill_first, fill_next, fill_room, fill_store, fill_space, fill_done, fill_kept, wrote_after}
@@ -26,15 +28,20 @@ module _ (l : ℤ) where
   unfolding literal_text
   literal_plain e = rw e
 
-  pub literal_most : IsVariable (variable l) → length (literal_text l) ≤ 8
-  literal_most v = go (is_negative l) refl
+  pub literal_long : length (literal_text l) ≡ length (digits (variable l)) + from_bool (is_negative l)
+  unfolding literal_text
+  literal_long = go (is_negative l) refl
     where
-      few : length (digits (variable l)) ≤ 7
-      few = digits_most 6 (variable l) (omega arith)
+      go : (b : Bool) → is_negative l ≡ b → length (when (is_negative l) (45 ∷ []) ++ digits (variable l)) ≡ length (digits (variable l)) + from_bool (is_negative l)
+      go true e = rw e (omega arith)
+      go false e = rw e (omega arith)
 
-      go : (b : Bool) → is_negative l ≡ b → length (literal_text l) ≤ 8
-      go true e = rw (literal_signed e) (omega (arith, few))
-      go false e = rw (literal_plain e) (omega (arith, few))
+  pub literal_most : IsVariable (variable l) → length (literal_text l) ≤ 8
+  literal_most v = omega (arith, literal_long, digits_most 6 (variable l) (omega arith), bit (is_negative l))
+    where
+      bit : (b : Bool) → from_bool b ≤ 1
+      bit true = omega arith
+      bit false = omega arith
 
 -- ---- a clause, of which k literals are done
 

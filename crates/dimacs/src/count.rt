@@ -9,7 +9,7 @@ use formulas::clauses::Clauses;
 use lists::wide;
 use literals::Literal;
 
-// Of the lines behind the first.
+// Of the lines behind the first. One type with that of implications would not say the unit.
 #[derive(Clone, Copy)]
 pub struct Extent {
     pub clauses: usize,
@@ -19,11 +19,7 @@ pub struct Extent {
 fn count_literal(l: Literal) -> usize
     ensures { result ≡ length (literal_text l.word) }
 {
-    let n = count_digits(wide(l.magnitude()));
-    if l.is_negative() {
-        return n + 1;
-    }
-    n
+    count_digits(wide(l.magnitude())) + usize::from(l.is_negative())
 }
 
 // A space behind each literal, then 0 and a newline.

@@ -6,7 +6,8 @@ ghost use Rattle.dimacs.specs.Text.{digit, digits};
 // 0 has one, as 1 has.
 #[tactic(auto, using(crate::proofs::NumberText::digits_count))]
 pub fn count_digits(n: usize) -> usize
-    ensures { result ≡ length (digits n) }
+    ensures as_written { result ≡ length (digits n) }
+    ensures few { result ≤ 20 }
 {
     n.max(1).ilog10() as usize + 1
 }

@@ -27,7 +27,7 @@ impl Literal {
         Literal { word: -(v as i32) }
     }
 
-    // Of a word that is one.
+    // Of a word that is one. From cannot require that, and TryFrom would add a way to fail.
     pub fn of_word(word: i32) -> Literal
         requires { IsVariable (variable word) }
         ensures { result.word ≡ word }
@@ -48,7 +48,7 @@ impl Literal {
         self.word.unsigned_abs()
     }
 
-    // Any word and any number of variables. The smallest i32 is refused as out of range.
+    // Any word, within the variables: TryFrom takes no such bound. The smallest i32 is refused.
     pub fn read(word: i32, variables: u32) -> Option<Literal>
         ensures { Reading variables word result }
     {
@@ -84,7 +84,7 @@ pub fn no(v: usize) -> i32
     Literal::negative(v as u32).into()
 }
 
-// The word of a count.
+// The word of a count. What it requires leaves try_from no way to fail.
 pub fn count_word(n: usize) -> i32
     requires { n < 2147483648 }
     ensures { result ≡ pos n }
