@@ -22,6 +22,7 @@ fn put_text(variables: usize, clauses: usize, words: &[i32], out: &mut [u8]) -> 
 }
 
 // The text, where there is room.
+#[tactic(auto, using(crate::proofs::HeaderLine::text_long))]
 fn write_text(variables: usize, words: &[i32], out: &mut [u8]) -> Result<usize, Refusal>
     requires { Formed words.now }
     ensures { Answers passed (text variables (clauses_in words.now)) out.old result out.new }
