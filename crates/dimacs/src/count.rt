@@ -50,7 +50,8 @@ pub fn count_lines(words: &[i32]) -> Extent
 
 #[tactic(auto, using(crate::proofs::HeaderLine::header_long))]
 pub fn count_header(variables: usize, clauses: usize) -> usize
-    ensures { result ≡ length (header variables clauses) }
+    ensures as_written { result ≡ length (header variables clauses) }
+    ensures few { result ≤ 48 }
 {
     count_digits(variables) + count_digits(clauses) + 8
 }
