@@ -13,6 +13,7 @@ use formulas::check::check_words;
 use refusals::Refusal;
 
 // The first line, and a line per clause.
+#[tactic(auto, using(crate::proofs::HeaderLine::text_long))]
 fn put_text(variables: usize, clauses: usize, words: &[i32], out: &mut [u8]) -> usize
     requires { Formed words.now × (clauses ≡ length (clauses_in words.now)) × (length (text variables (clauses_in words.now)) ≤ length out.old) }
     ensures { Wrote (text variables (clauses_in words.now)) out.old 0 out.new result }
@@ -22,6 +23,7 @@ fn put_text(variables: usize, clauses: usize, words: &[i32], out: &mut [u8]) -> 
 }
 
 // The text, where there is room.
+#[tactic(auto, using(crate::proofs::HeaderLine::text_long))]
 fn write_text(variables: usize, words: &[i32], out: &mut [u8]) -> Result<usize, Refusal>
     requires { Formed words.now }
     ensures { Answers passed (text variables (clauses_in words.now)) out.old result out.new }

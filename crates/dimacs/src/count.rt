@@ -16,6 +16,7 @@ pub struct Extent {
     pub bytes: usize,
 }
 
+#[tactic(auto, using(crate::proofs::ClauseLines::literal_long))]
 fn count_literal(l: Literal) -> usize
     ensures { result ≡ length (literal_text l.word) }
 {
@@ -47,8 +48,10 @@ pub fn count_lines(words: &[i32]) -> Extent
     Extent { clauses, bytes }
 }
 
+#[tactic(auto, using(crate::proofs::HeaderLine::header_long))]
 pub fn count_header(variables: usize, clauses: usize) -> usize
-    ensures { result ≡ length (header variables clauses) }
+    ensures as_written { result ≡ length (header variables clauses) }
+    ensures few { result ≤ 48 }
 {
     count_digits(variables) + count_digits(clauses) + 8
 }

@@ -1,17 +1,10 @@
-use lib.IntN.{pos}
 use native.Mathlib.Omega.{arith}
 use mathlib.Core.Path.{ap, ◌∙◌}
-use lib.ListN.{get_or, length}
+use lib.ListN.{length}
 use Rattle.literals.proofs.Words.{word_is}
 use Rattle.dimacs.specs.Text.{literal_text}
-use Rattle.dimacs.proofs.ClauseLines.{line_first, line_fits, line_next, line_done, clause_most}
+use Rattle.dimacs.proofs.ClauseLines.{line_fits, line_next, line_done, clause_most}
 use Rattle.dimacs.proofs.count.count_clause.Goals as goal
-
-pub loop-word-init : goal.loop-word-init
-loop-word-init c = line_first _
-
-pub of_word-requires : goal.of_word-requires
-of_word-requires c = rw (word_is (get_or c.args.clause.now c.loop-word.word-index (pos 0)) (omega arith)) (c.requires.0 _ (omega (arith, c.loop-word-test.true)))
 
 pub overflow_add-bytes : goal.overflow_add-bytes
 overflow_add-bytes c = omega (arith, line_fits c.loop-word.invariant (omega (arith, c.loop-word-test.true)) (c.count_literal.ensures ∙ ap (λ l. length (literal_text l)) (c.of_word.ensures ∙ word_is _ (omega arith))) c.requires.0, c.requires.1)

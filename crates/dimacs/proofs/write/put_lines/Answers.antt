@@ -1,5 +1,5 @@
 use mathlib.Core.Path.{refl}
-use Rattle.lists.proofs.Writing.{fill_first, fill_kept}
+use Rattle.lists.proofs.Writing.{fill_first}
 use Rattle.dimacs.proofs.LineLoops.{few_first, few_clause, line_room, lines_next, lines_wrote}
 use Rattle.dimacs.proofs.write.put_lines.Goals as goal
 
@@ -11,9 +11,6 @@ put_clause-to-requires c = ((few_clause c.loop-clause.invariant.few c.in-Some.en
 
 pub loop-clause-preserved : goal.loop-clause-preserved
 loop-clause-preserved c = lines_next c.loop-clause.invariant c.in-Some.ensures.steps c.put_clause-to.ensures
-
-pub shape_of-out : goal.shape_of-out
-shape_of-out c = fill_kept c.loop-clause.invariant.fill
 
 pub returns : goal.returns
 returns c = lines_wrote c.loop-clause.invariant c.in-None.ensures.steps.0
