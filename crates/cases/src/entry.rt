@@ -1,4 +1,7 @@
 // The entries by name.
+ghost use Rattle.std.specs.Prelude.{◌≡◌, ◌≢◌, MatchOption};
+ghost use Rattle.cases.specs.Names.{name_of};
+
 #[derive(Clone, Copy)]
 pub enum Entry {
     TwoPowers,
@@ -16,64 +19,28 @@ pub enum Entry {
     Dimacs,
     Encode,
     Puzzle,
-    Unknown,
 }
 
-pub fn named(name: &[u8]) -> Entry {
-    if check::same(name, b"two_powers") {
-        return Entry::TwoPowers;
+// Nothing for another name.
+pub fn named(name: &[u8]) -> Option<Entry>
+    ensures { MatchOption result ((e : Entry) → name.now ≢ name_of e) (λ e. name.now ≡ name_of e) }
+{
+    match name {
+        b"two_powers" => Some(Entry::TwoPowers),
+        b"from_two_powers" => Some(Entry::FromTwoPowers),
+        b"read_line" => Some(Entry::ReadLine),
+        b"starts" => Some(Entry::Starts),
+        b"color_ranges" => Some(Entry::ColorRanges),
+        b"read_grid" => Some(Entry::ReadGrid),
+        b"transpose" => Some(Entry::Transpose),
+        b"clauses" => Some(Entry::Clauses),
+        b"counts" => Some(Entry::Counts),
+        b"check_model" => Some(Entry::CheckModel),
+        b"blocking" => Some(Entry::Blocking),
+        b"probes" => Some(Entry::Probes),
+        b"dimacs" => Some(Entry::Dimacs),
+        b"encode" => Some(Entry::Encode),
+        b"puzzle" => Some(Entry::Puzzle),
+        _ => None,
     }
-    if check::same(name, b"from_two_powers") {
-        return Entry::FromTwoPowers;
-    }
-    if check::same(name, b"read_line") {
-        return Entry::ReadLine;
-    }
-    if check::same(name, b"starts") {
-        return Entry::Starts;
-    }
-    if check::same(name, b"color_ranges") {
-        return Entry::ColorRanges;
-    }
-    of_puzzle(name)
-}
-
-// Those of grids and puzzles.
-fn of_puzzle(name: &[u8]) -> Entry {
-    if check::same(name, b"read_grid") {
-        return Entry::ReadGrid;
-    }
-    if check::same(name, b"transpose") {
-        return Entry::Transpose;
-    }
-    if check::same(name, b"clauses") {
-        return Entry::Clauses;
-    }
-    if check::same(name, b"counts") {
-        return Entry::Counts;
-    }
-    if check::same(name, b"puzzle") {
-        return Entry::Puzzle;
-    }
-    of_solver(name)
-}
-
-// Those of a solver's input and output.
-fn of_solver(name: &[u8]) -> Entry {
-    if check::same(name, b"check_model") {
-        return Entry::CheckModel;
-    }
-    if check::same(name, b"blocking") {
-        return Entry::Blocking;
-    }
-    if check::same(name, b"probes") {
-        return Entry::Probes;
-    }
-    if check::same(name, b"dimacs") {
-        return Entry::Dimacs;
-    }
-    if check::same(name, b"encode") {
-        return Entry::Encode;
-    }
-    Entry::Unknown
 }

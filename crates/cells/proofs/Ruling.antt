@@ -9,7 +9,7 @@ use lib.Seq.{ext_get_or}
 use Rattle.lists.specs.Each.{each, tab}
 use Rattle.lists.specs.Wrote.{Wrote}
 use Rattle.lists.proofs.Eaches.{length_tab, get_or_tab}
-use Rattle.lists.proofs.Emitting.{Emitting, emit_first, emit_done}
+use Rattle.lists.proofs.Emitting.{Emitting, one_first, one_done}
 use Rattle.lists.proofs.Writing.{wrote_then, wrote_store, wrote_after, wrote_kept}
 use Rattle.literals.specs.Literals.{positive, negative}
 use Rattle.sections.specs.Sections.{clause_words, clauses_words}
@@ -27,11 +27,13 @@ map_each f us =
 module _ (us : List ℕ) where
   -- ---- their positive literals
 
-  pub found_first : (out : List ℤ) (at : ℕ) → at + length us ≤ length out → Emitting (length us) (λ k. positive (get_or us k 0) ∷ []) out at out at 0
-  found_first out at h = emit_first (length us) _ out at (omega (arith, length-map us positive, ap length (map_each positive us)))
+  pub found_first : (out : List ℤ) (at : ℕ) → at + length us ≤ length out → Emitting (length us) (λ k. positive (get_or us k 0) ∷ []) out at out (at + 0) 0
+  found_first out at h = one_first (length us) (λ k. positive (get_or us k 0)) out at h
 
-  pub found_done : {out₀ out : List ℤ} {at₀ at i : ℕ} → Emitting (length us) (λ k. positive (get_or us k 0) ∷ []) out₀ at₀ out at i → length us ≤ i → Wrote (map positive us) out₀ at₀ out at
-  found_done E h = rw (map_each positive us) (emit_done E h)
+  pub found_done : {out₀ out : List ℤ} {at i : ℕ} → Emitting (length us) (λ k. positive (get_or us k 0) ∷ []) out₀ at out (at + i) i → length us ≤ i
+      → Wrote (map positive us) out₀ at out (at + length us)
+  unfolding tab
+  found_done E h = rw (map_each positive us) (one_done E h)
 
   module _ (v : ℕ) where
     -- ---- 7

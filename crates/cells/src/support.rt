@@ -17,12 +17,10 @@ fn put_found(found: &[usize], out: &mut [i32], at: usize) -> usize
     requires found_in_bounds { at + length found.now ≤ length out.old }
     ensures { Wrote (map positive found.now) out.old at out.new result }
 {
-    let mut to = at;
-    for &u in found {
-        out[to] = yes(u);
-        to += 1;
+    for (i, &u) in found.iter().enumerate() {
+        out[at + i] = yes(u);
     }
-    to
+    at + found.len()
 }
 
 // 7: a cell that has the colour is covered.

@@ -36,6 +36,31 @@ pub struct Counts {
     pub words: usize,
 }
 
+impl Counts {
+    ghost use Rattle.counts.specs.Counted.{numbers};
+
+    // As they are told: the variables, the ten families in their order, the literals, the words.
+    pub fn numbers(self) -> [u64; 13]
+        ensures { result ≡ numbers self }
+    {
+        [
+            self.variables as u64,
+            self.columns.positions as u64,
+            self.rows.positions as u64,
+            self.columns.once as u64,
+            self.rows.once as u64,
+            self.columns.overlap as u64,
+            self.rows.overlap as u64,
+            self.cells.color as u64,
+            self.cells.space as u64,
+            self.cells.point as u64,
+            self.cells.units as u64,
+            self.literals as u64,
+            self.words as u64,
+        ]
+    }
+}
+
 // Of n lines from line l on.
 fn count_side(lines: Lines, l: usize, n: usize) -> Side
     requires { l + n ≤ P.lines (puzzle_in lines) }

@@ -4,12 +4,11 @@ use mathlib.Core.Bool.{Bool, true, false}
 use mathlib.Core.List.{List, [], ◌∷◌, ◌++◌}
 use Prim.Native.Nat.{ℕ, suc, ◌+◌, ◌*◌, ◌≤◌, ◌<◌}
 use native.Mathlib.Omega.{arith}
-use native.Mathlib.Numerals.{add-one}
 use lib.IntN.{ℤ, pos}
 use lib.ListN.{length, drop, get_or, set, length-append, length-set, drop_of_length-le}
 use Rattle.lists.specs.Wrote.{Wrote}
 use Rattle.lists.proofs.Dropping.{drop_one}
-use Rattle.lists.proofs.Writing.{Filling, fill_first, fill_next, fill_room, fill_store, fill_space, fill_done, fill_kept, wrote_after, wrote_sets}
+use Rattle.lists.proofs.Writing.{Filling, fill_first, fill_next, fill_room, fill_store, fill_space, fill_done, fill_kept, wrote_after}
 use Rattle.literals.specs.Literals.{IsVariable, variable, is_negative}
 use Rattle.sections.specs.Sections.{Clause}
 use Rattle.dimacs.specs.Text.{digit, digits, space, newline, literal_text, clause_text}
@@ -135,5 +134,5 @@ module _ {c : Clause} {out₀ out : List ℕ} {at₀ to k : ℕ} (F : LineFillin
     pub end_room : to + 2 ≤ length out
     end_room = fill_room F.fill (digit 0 ∷ newline ∷ []) [] (clause_end c k h)
 
-    pub line_wrote : Wrote (clause_text c) out₀ at₀ (set (set out to (digit 0)) (to + 1) newline) (to + 2)
-    line_wrote = rw add-one (fill_done (fill_next F.fill (digit 0 ∷ newline ∷ []) [] (clause_end c k h) (wrote_sets (digit 0 ∷ newline ∷ []) out to end_room)) refl)
+    pub line_wrote : {out₁ : List ℕ} {to₁ : ℕ} → Wrote (digit 0 ∷ newline ∷ []) out to out₁ to₁ → Wrote (clause_text c) out₀ at₀ out₁ to₁
+    line_wrote w = fill_done (fill_next F.fill (digit 0 ∷ newline ∷ []) [] (clause_end c k h) w) refl

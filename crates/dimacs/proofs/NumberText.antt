@@ -1,7 +1,7 @@
 -- The digits of a number: one, or those of its tenth and then the last. They are digit bytes with no leading zero, and say the number.
-use mathlib.Core.Path.{◌≡◌, refl}
+use mathlib.Core.Path.{◌≡◌, refl, ap}
 use mathlib.Core.List.{List, [], ◌∷◌, ◌++◌}
-use Prim.Native.Nat.{ℕ, zero, suc, ◌+◌, ◌-◌, ◌*◌, ◌/◌, ◌%◌, ◌^◌, ◌≤◌, ◌<◌}
+use Prim.Native.Nat.{ℕ, zero, suc, ◌+◌, ◌-◌, ◌*◌, ◌/◌, ◌%◌, ◌^◌, ◌≤◌, ◌<◌, max}
 use native.Mathlib.Omega.{arith}
 use native.Mathlib.Nat.{div-add-mod, mod-lt, pow-suc, one-le-pow}
 use native.Mathlib.Decide.{dec_lt}
@@ -82,6 +82,15 @@ digits_least (suc k) n h =
 -- between two powers of ten
 pub digits_long : (k n : ℕ) → 10 ^ k ≤ n → n < 10 ^ suc k → suc k ≡ length (digits n)
 digits_long k n h l = omega (arith, digits_least k n h, digits_most k n l)
+
+-- 0 has as many as 1
+pub digits_count : (n m k : ℕ) → m ≡ max n 1 → 10 ^ k ≤ m → m < 10 * 10 ^ k → k + 1 ≡ length (digits n)
+digits_count n m k e h l =
+    let d = digits_long k m h (omega (arith, l, pow-suc 10 k)) in
+    elim (dec_lt n 1) [
+      | yes z ↦ omega (arith, d, ap (λ n. length (digits n)) e, ap length (digits_one n (omega arith)), ap length (digits_one m (omega arith)))
+      | no s ↦ let f : m ≡ n = omega arith in omega (arith, d, ap (λ n. length (digits n)) f)
+    ]
 
 -- ---- what they say
 

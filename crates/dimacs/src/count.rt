@@ -5,7 +5,7 @@ ghost use Rattle.dimacs.specs.Text.{literal_text, clause_text, header};
 ghost use Rattle.dimacs.specs.Sizes.{ExtentIs};
 
 use crate::digits::count_digits;
-use formulas::word::count;
+use formulas::clauses::Clauses;
 use lists::wide;
 use literals::Literal;
 
@@ -38,26 +38,15 @@ fn count_clause(clause: &[i32]) -> usize
     bytes + 2
 }
 
-// Where a section has no clause left, the next word counts those of another.
 pub fn count_lines(words: &[i32]) -> Extent
     requires { Formed words.now }
     ensures { ExtentIs (clauses_in words.now) result }
 {
     let mut clauses = 0;
     let mut bytes = 0;
-    let mut left = 0;
-    let mut i = 0;
-    while i < words.len() {
-        let n = count(words[i]);
-        i += 1;
-        if left == 0 {
-            left = n;
-            continue;
-        }
-        bytes += count_clause(&words[i..i + n]);
+    for clause in Clauses::of(words) {
+        bytes += count_clause(clause);
         clauses += 1;
-        left -= 1;
-        i += n;
     }
     Extent { clauses, bytes }
 }

@@ -3,28 +3,12 @@ ghost use Rattle.std.specs.Prelude.{◌≡◌, ◌+◌, ◌≤◌, ◌<◌, leng
 ghost use Rattle.lists.specs.Wrote.{Wrote};
 ghost use Rattle.dimacs.specs.Text.{digit, digits};
 
+// 0 has one, as 1 has.
+#[tactic(auto, using(crate::proofs::NumberText::digits_count))]
 pub fn count_digits(n: usize) -> usize
     ensures { result ≡ length (digits n) }
 {
-    if n < 10 {
-        return 1;
-    }
-    if n < 100 {
-        return 2;
-    }
-    if n < 1_000 {
-        return 3;
-    }
-    if n < 10_000 {
-        return 4;
-    }
-    if n < 100_000 {
-        return 5;
-    }
-    if n < 1_000_000 {
-        return 6;
-    }
-    count_digits(n / 10) + 1
+    n.max(1).ilog10() as usize + 1
 }
 
 // The byte of one digit.

@@ -5,8 +5,8 @@ ghost use Rattle.formulas.specs.Clauses.{AreVariables, Formed, clauses_in};
 ghost use Rattle.dimacs.specs.Text.{literal_text, clause_text, clauses_text, header};
 
 use crate::digits::put_number;
-use formulas::word::count;
-use lists::wide;
+use formulas::clauses::Clauses;
+use lists::{put_slice, wide};
 use literals::Literal;
 
 // Its sign and its variable.
@@ -32,46 +32,28 @@ fn put_clause(clause: &[i32], out: &mut [u8], at: usize) -> usize
         out[to] = b' ';
         to += 1;
     }
-    out[to] = b'0';
-    out[to + 1] = b'\n';
-    to + 2
+    put_slice(b"0\n", out, to)
 }
 
-// The walk of `count_lines`.
 pub fn put_lines(words: &[i32], out: &mut [u8], at: usize) -> usize
     requires { Formed words.now × (at + length (clauses_text (clauses_in words.now)) ≤ length out.old) }
     ensures { Wrote (clauses_text (clauses_in words.now)) out.old at out.new result }
 {
     let mut to = at;
-    let mut left = 0;
-    let mut i = 0;
-    while i < words.len() {
-        let n = count(words[i]);
-        i += 1;
-        if left == 0 {
-            left = n;
-            continue;
-        }
-        to = put_clause(&words[i..i + n], out, to);
-        left -= 1;
-        i += n;
+    for clause in Clauses::of(words) {
+        to = put_clause(clause, out, to);
     }
     to
 }
 
+#[tactic(auto, using(crate::proofs::HeaderLine::header_long))]
 pub fn put_header(variables: usize, clauses: usize, out: &mut [u8]) -> usize
     requires { length (header variables clauses) ≤ length out.old }
     ensures { Wrote (header variables clauses) out.old 0 out.new result }
 {
-    out[0] = b'p';
-    out[1] = b' ';
-    out[2] = b'c';
-    out[3] = b'n';
-    out[4] = b'f';
-    out[5] = b' ';
-    let to = put_number(variables, out, 6);
-    out[to] = b' ';
-    let end = put_number(clauses, out, to + 1);
-    out[end] = b'\n';
-    end + 1
+    let at = put_slice(b"p cnf ", out, 0);
+    let to = put_number(variables, out, at);
+    let from = put_slice(b" ", out, to);
+    let end = put_number(clauses, out, from);
+    put_slice(b"\n", out, end)
 }

@@ -1,4 +1,3 @@
 pub mod InputWords
-pub mod RefusedLine
 pub mod PuzzleText
 pub mod Telling

@@ -7,15 +7,18 @@ ghost use Rattle.puzzles.specs.Checks.{puzzle};
 ghost use Rattle.encoding.specs.Encode.{words_of, input_checks, text_of, words_checks, bytes_checks, encoded};
 
 use crate::refused::put_refused;
-use crate::words::{read_words, word_buffer};
+use crate::words::read_words;
 use clauses::call::clauses;
 use counts::call::counts;
 use dimacs::call::dimacs;
 use lists::wide;
-use refusals::{Answer, Refusal};
+use refusals::Refusal;
 
 // The most bytes that it takes, and the most that it writes.
 const BYTES: usize = 65536;
+
+// As many words as they hold.
+const WORDS: usize = 16384;
 
 // The sections of a clause buffer.
 const SECTIONS: usize = 10;
@@ -28,44 +31,35 @@ fn clause_buffer() -> [i32; 16384]
 }
 
 // 23.
-fn check_input(input: &[u8]) -> Answer
+fn check_input(input: &[u8]) -> Result<(), Refusal>
     ensures { checked result ≡ input_checks input.now }
 {
     if BYTES < input.len() {
-        return Answer::Refused(Refusal::ProgramInput(BYTES));
+        return Err(Refusal::ProgramInput(BYTES));
     }
     if input.len() % 4 != 0 {
-        return Answer::Refused(Refusal::ProgramInput(input.len()));
+        return Err(Refusal::ProgramInput(input.len()));
     }
-    Answer::Accepted(0)
+    Ok(())
 }
 
 // The DIMACS text of a puzzle's clauses: its own refusals, 12 by words, 12 by bytes.
-fn write_puzzle(words: &[u32], out: &mut [u8]) -> Answer
+fn write_puzzle(words: &[u32], out: &mut [u8]) -> Result<usize, Refusal>
     ensures { Answers (words_checks words.now) (text_of (puzzle words.now)) out.old result out.new }
 {
     let mut numbers = [0u64; 13];
-    let counted = counts(words, &mut numbers);
-    let Answer::Accepted(_) = counted else {
-        return counted;
-    };
+    counts(words, &mut numbers)?;
     let mut buffer = clause_buffer();
-    let written = clauses(words, &mut buffer);
-    let Answer::Accepted(n) = written else {
-        return written;
-    };
+    let n = clauses(words, &mut buffer)?;
     dimacs(numbers[0] as usize, SECTIONS, &buffer[..n], out)
 }
 
 // The same, of the bytes that hold its words.
-fn write_input(input: &[u8], out: &mut [u8]) -> Answer
+fn write_input(input: &[u8], out: &mut [u8]) -> Result<usize, Refusal>
     ensures { Answers (bytes_checks input.now) (text_of (puzzle (words_of input.now))) out.old result out.new }
 {
-    let checked = check_input(input);
-    let Answer::Accepted(_) = checked else {
-        return checked;
-    };
-    let mut words = word_buffer();
+    check_input(input)?;
+    let mut words = [0; WORDS];
     let n = read_words(input, &mut words);
     write_puzzle(&words[..n], out)
 }
@@ -75,11 +69,10 @@ fn tell(input: &[u8], out: &mut [u8]) -> usize
     requires { 65536 ≡ length out.old }
     ensures { Wrote (encoded input.now) out.old 0 out.new result × (result ≤ 65536) }
 {
-    let answer = write_input(input, out);
-    let Answer::Accepted(used) = answer else {
-        return put_refused(wide(answer.number()), answer.place(), out);
-    };
-    used
+    match write_input(input, out) {
+        Ok(used) => used,
+        Err(why) => put_refused(wide(why.number()), why.place(), out),
+    }
 }
 
 // What the program writes, of what it read.

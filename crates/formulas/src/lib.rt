@@ -2,5 +2,6 @@
 #![tactic(auto, using(refusals::proofs::Passing::reading))]
 
 pub mod check;
+pub mod clauses;
 mod read;
 pub mod word;

@@ -91,6 +91,10 @@ module _ {A : Type 0} where
             (ap (λ (l : List A). take at out ++ l) (w.left ∙ rw (tail_is out at, drop-drop)));
       }
 
+  -- a front that was lent, `&mut out[..n]`, and filled
+  pub wrote_at_front : (ws out : List A) (n : ℕ) → n ≡ length ws → Wrote ws out 0 (ws ++ drop n out) n
+  wrote_at_front ws out n e = record { next_is = rw (e, zero-add); left = refl }
+
   -- a part that was lent, `&mut out[at..at + n]`, and filled
   pub wrote_part : (ws out : List A) (at n : ℕ) → length ws ≡ n → Wrote ws out at (put_mid at n out ws) (at + n)
   wrote_part ws out at n e = record { next_is = rw e; left = ap (λ (l : List A). take at out ++ (ws ++ l)) (drop-drop n at out) }

@@ -1,4 +1,4 @@
-// The lists that loops make and the words that writers leave, with their laws; and the smallest writer.
+// The lists that loops make and the words that writers leave, with their laws; and the smallest writers.
 #![tactic(auto)]
 
 ghost use Rattle.std.specs.Prelude.{◌≡◌, [], ◌∷◌, ◌+◌, ◌≤◌, length};
@@ -11,6 +11,15 @@ pub fn put_pair(a: u32, b: u32, out: &mut [u32], at: usize) -> usize
     out[at] = a;
     out[at + 1] = b;
     at + 2
+}
+
+pub fn put_slice<T: Copy>(part: &[T], out: &mut [T], at: usize) -> usize
+    requires { at + length part.now ≤ length out.old }
+    ensures { Wrote part.now out.old at out.new result }
+{
+    let to = at + part.len();
+    out[at..to].copy_from_slice(part);
+    to
 }
 
 // A word as a size: a word that was just read has no bound in sight, and a parameter has.

@@ -16,10 +16,19 @@ pub fn check_sections(part: &[u32], at: usize) -> Result<usize, Refusal>
     requires { at + length part.now < 2 ^ 63 }
     ensures { told result ≡ and_then (walked 11 (read_puzzle at part.now)) (accepted (at + rows_at (puzzle_of (read_puzzle at part.now)))) }
 {
-    let rows = read_lines(part, at)?;
-    let cells = read_lines(&part[rows - at..], rows)?;
+    let columns = read_lines(part, at);
+    let Ok(rows) = columns else {
+        return columns;
+    };
+    let read = read_lines(&part[rows - at..], rows);
+    let Ok(cells) = read else {
+        return read;
+    };
     let area = wide(part[0]) * wide(part[rows - at]);
-    let end = read_cells(area, &part[cells - at..], cells)?;
+    let masks = read_cells(area, &part[cells - at..], cells);
+    let Ok(end) = masks else {
+        return masks;
+    };
     if end - at < part.len() {
         return Err(Refusal::LeftOver(end));
     }

@@ -2,7 +2,7 @@
 #![tactic(auto)]
 
 ghost use Rattle.std.specs.Prelude.{◌≡◌};
-ghost use Rattle.refusals.specs.Told.{refusal, told};
+ghost use Rattle.refusals.specs.Told.{refusal};
 ghost use Rattle.refusals.specs.Verdict.{number, place};
 
 // A variant for each number of document 01, in its order, with the place.
@@ -92,16 +92,5 @@ impl Refusal {
             | Refusal::ClauseWords(p)
             | Refusal::ProgramInput(p) => p,
         }
-    }
-}
-
-// What a caller in C is told of an answer: the number, and the place or how many were written.
-pub fn told(answer: Result<usize, Refusal>) -> (u32, usize)
-    ensures number { result.0 ≡ number (told answer) }
-    ensures place { result.1 ≡ place (told answer) }
-{
-    match answer {
-        Ok(n) => (0, n),
-        Err(why) => (why.number(), why.place()),
     }
 }

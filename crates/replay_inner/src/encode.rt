@@ -1,91 +1,54 @@
 // The base program as a function: the bytes of words, then some zero bytes more. A checksum stands for all bytes that it writes.
-ghost use Rattle.std.specs.Prelude.{◌≡◌, ◌+◌, ◌≤◌, length};
+ghost use Rattle.std.specs.Prelude.{◌≤◌, IfOk, vec_len};
 
-use cases::number::{at_most, index};
+use cases::case::Case;
 use encoding::program::encode;
-use shows::show::show_bytes;
+use shows::show::{Shown, show};
+use std::alloc::{AllocError, Global};
 use std::io;
 use std::io::Write;
 
-pub fn answer<W: Write>(writer: &mut W, room: usize, args: &[u32]) -> io::Result<()> {
-    if args.len() == 0 {
-        return Ok(());
-    }
-    let mut input = input_buffer();
-    let n = as_input(&args[1..], &mut input);
-    let more = at_most(index(args[0]), 70000 - n);
-    tell(writer, &input, n + more, room)
-}
-
-fn tell<W: Write>(writer: &mut W, bytes: &[u8], n: usize, room: usize) -> io::Result<()>
-    requires { n ≤ length bytes.now }
-{
-    let mut out = output_buffer();
-    let used = encode(&bytes[0..n], &mut out);
-    show_front(writer, &out, at_most(used, 65536), room)
-}
-
-// The first n bytes: their checksum, and as many of them as there is room for.
-fn show_front<W: Write>(writer: &mut W, bytes: &[u8], n: usize, room: usize) -> io::Result<()>
-    requires { n ≤ length bytes.now }
-{
-    show_bytes(
-        writer,
-        checksum(&bytes[0..n]),
-        n,
-        &bytes[0..at_most(room, n)],
-    )
-}
-
 // More than the program takes.
-fn input_buffer() -> [u8; 70000]
-    ensures { 70000 ≡ length result }
-{
-    [0; 70000]
+const INPUT: usize = 70000;
+
+// The most that it writes.
+const OUTPUT: usize = 65536;
+
+pub fn answer<W: Write>(writer: &mut W, case: Case<'_>) -> io::Result<()> {
+    let Some((more, words)) = case.args.split_first() else {
+        return Ok(());
+    };
+    let input = input_of(case.alloc, words, *more as usize)?;
+    let mut out = [0; OUTPUT];
+    let used = encode(&input, &mut out);
+    show_front(writer, &out[..used], case.room)
 }
 
-fn output_buffer() -> [u8; 65536]
-    ensures { 65536 ≡ length result }
-{
-    [0; 65536]
+// The bytes: their checksum, and as many of them as there is room for.
+fn show_front<W: Write>(writer: &mut W, bytes: &[u8], room: usize) -> io::Result<()> {
+    let shown = bytes.len().min(room).min(u8::MOST);
+    show(writer, checksum(bytes), bytes.len(), &bytes[..shown])
 }
 
-// Low byte first.
-fn put_word(word: u32, out: &mut [u8], at: usize) -> usize
-    requires { at + 4 ≤ length out.old }
-    ensures { result ≡ at + 4 }
+// The words' bytes, low byte first, and some zeros more.
+fn input_of(alloc: Global, words: &[u32], more: usize) -> Result<Vec<u8>, AllocError>
+    ensures { IfOk result (λ v. vec_len v ≤ 70000) }
 {
-    out[at] = (word % 256) as u8;
-    out[at + 1] = (word / 256 % 256) as u8;
-    out[at + 2] = (word / 65536 % 256) as u8;
-    out[at + 3] = (word / 16777216 % 256) as u8;
-    at + 4
+    let mut input: Vec<u8> = words
+        .iter()
+        .take(INPUT / 4)
+        .flat_map(|word| word.to_le_bytes())
+        .collect(alloc)?;
+    input.resize(input.len().saturating_add(more).min(INPUT), 0)?;
+    Ok(input)
 }
 
-fn as_input(words: &[u32], out: &mut [u8]) -> usize
-    ensures { result ≤ length out.old }
-{
-    let mut to = 0;
-    for i in 0..words.len() {
-        if out.len() - to < 4 {
-            return to;
-        }
-        to = put_word(words[i], out, to);
-    }
-    to
-}
-
-fn more(sum: u64, byte: u8) -> u64
-    requires { sum ≤ 4294967291 }
+fn more(sum: u32, byte: u8) -> u32
     ensures { result ≤ 4294967291 }
 {
-    (31 * sum + byte as u64) % 4294967291
+    ((31 * u64::from(sum) + u64::from(byte)) % 4294967291) as u32
 }
 
 fn checksum(bytes: &[u8]) -> u32 {
-    let mut sum = 7;
-    for i in 0..bytes.len() {
-        sum = more(sum, bytes[i]);
-    }
-    sum as u32
+    bytes.iter().fold(7, |sum, byte| more(sum, *byte))
 }

@@ -1,138 +1,74 @@
 // The calls that take a mask, a line, a clue or a grid.
 #![tactic(auto)]
 
-ghost use Rattle.std.specs.Prelude.{◌≤◌, length};
-
-use cases::entry::Entry;
-use cases::number::{as_bytes, at_most, index};
+use cases::case::{Case, low_bytes};
 use haafgrim::{
     haafgrim_color_ranges, haafgrim_from_two_powers, haafgrim_read_grid, haafgrim_read_line,
     haafgrim_starts, haafgrim_transpose, haafgrim_two_powers,
 };
-use shows::show::{show, show_bytes};
+use shows::show::lend;
 use std::io;
 use std::io::Write;
 
-// A line and a grid are the same numbers as bytes.
-pub fn replay<W: Write>(writer: &mut W, entry: Entry, room: usize, args: &[u32]) -> io::Result<()> {
-    let mut bytes = [0u8; 4200];
-    let n = as_bytes(args, &mut bytes);
-    match entry {
-        Entry::Transpose => transpose(writer, room, args, &bytes, n),
-        _ => lend(writer, entry, room, args, &bytes, n),
-    }
+// A call that lacks its first numbers is not made: it shows what it would be lent.
+pub fn two_powers<W: Write>(writer: &mut W, case: Case<'_>) -> io::Result<()> {
+    lend(writer, case, |out: &mut [u32], place| match case.args {
+        [mask, ..] => haafgrim_two_powers(*mask, out, place),
+        [] => 0,
+    })
 }
 
-// The buffer is full of sevens before, so that what stays untouched shows.
-fn lend<W: Write>(
-    writer: &mut W,
-    entry: Entry,
-    room: usize,
-    args: &[u32],
-    bytes: &[u8],
-    n: usize,
-) -> io::Result<()>
-    requires { n ≤ length bytes.now }
-{
-    let mut out = [7u32; 25600];
-    answer(
-        writer,
-        entry,
-        args,
-        &bytes[0..n],
-        &mut out,
-        at_most(room, 25600),
-    )
+pub fn from_two_powers<W: Write>(writer: &mut W, case: Case<'_>) -> io::Result<()> {
+    lend(writer, case, |_: &mut [u32], _| {
+        haafgrim_from_two_powers(case.args)
+    })
 }
 
-fn answer<W: Write>(
-    writer: &mut W,
-    entry: Entry,
-    args: &[u32],
-    bytes: &[u8],
-    out: &mut [u32],
-    room: usize,
-) -> io::Result<()>
-    requires { room ≤ length out.old }
-{
-    let mut place = 0;
-    let number = enter(entry, args, bytes, &mut out[0..room], &mut place);
-    show(writer, number, place, out, room)
+pub fn read_line<W: Write>(writer: &mut W, case: Case<'_>) -> io::Result<()> {
+    let line = low_bytes(case.alloc, case.args)?;
+    lend(writer, case, |out: &mut [u32], place| {
+        haafgrim_read_line(&line, out, place)
+    })
 }
 
-fn enter(entry: Entry, args: &[u32], bytes: &[u8], out: &mut [u32], place: &mut usize) -> u32 {
-    match entry {
-        Entry::FromTwoPowers => haafgrim_from_two_powers(args),
-        Entry::ReadLine => haafgrim_read_line(bytes, out, place),
-        Entry::ReadGrid => read_grid(args, bytes, out, place),
-        _ => enter_with(entry, args, out, place),
-    }
+pub fn starts<W: Write>(writer: &mut W, case: Case<'_>) -> io::Result<()> {
+    lend(writer, case, |out: &mut [u32], place| match case.args {
+        [length, clue @ ..] => haafgrim_starts(*length as usize, clue, out, place),
+        [] => 0,
+    })
 }
 
-// The entries that take a number first.
-fn enter_with(entry: Entry, args: &[u32], out: &mut [u32], place: &mut usize) -> u32 {
-    if args.len() == 0 {
-        return 0;
-    }
-    enter_first(entry, args[0], &args[1..], out, place)
+pub fn color_ranges<W: Write>(writer: &mut W, case: Case<'_>) -> io::Result<()> {
+    lend(writer, case, |out: &mut [u32], place| match case.args {
+        [length, clue @ ..] => haafgrim_color_ranges(*length as usize, clue, out, place),
+        [] => 0,
+    })
 }
 
-fn enter_first(entry: Entry, first: u32, rest: &[u32], out: &mut [u32], place: &mut usize) -> u32 {
-    match entry {
-        Entry::TwoPowers => haafgrim_two_powers(first, out, place),
-        Entry::Starts => haafgrim_starts(index(first), rest, out, place),
-        Entry::ColorRanges => haafgrim_color_ranges(index(first), rest, out, place),
-        _ => 0,
-    }
+// A grid is the same numbers as bytes, behind the two of its size.
+pub fn read_grid<W: Write>(writer: &mut W, case: Case<'_>) -> io::Result<()> {
+    let bytes = low_bytes(case.alloc, case.args)?;
+    lend(writer, case, |out: &mut [u32], place| {
+        match (case.args, &bytes[..]) {
+            ([width, height, ..], [_, _, grid @ ..]) => {
+                haafgrim_read_grid(*width as usize, *height as usize, grid, out, place)
+            }
+            _ => 0,
+        }
+    })
 }
 
-fn read_grid(args: &[u32], bytes: &[u8], out: &mut [u32], place: &mut usize) -> u32 {
-    if args.len() < 2 {
-        return 0;
-    }
-    if bytes.len() < 2 {
-        return 0;
-    }
-    haafgrim_read_grid(index(args[0]), index(args[1]), &bytes[2..], out, place)
-}
-
-fn transpose<W: Write>(
-    writer: &mut W,
-    room: usize,
-    args: &[u32],
-    bytes: &[u8],
-    n: usize,
-) -> io::Result<()>
-    requires { n ≤ length bytes.now }
-{
-    if args.len() < 2 {
+pub fn transpose<W: Write>(writer: &mut W, case: Case<'_>) -> io::Result<()> {
+    let bytes = low_bytes(case.alloc, case.args)?;
+    let ([width, height, ..], [_, _, grid @ ..]) = (case.args, &bytes[..]) else {
         return Ok(());
-    }
-    if n < 2 {
-        return Ok(());
-    }
-    let mut out = [7u8; 4200];
-    turn(
-        writer,
-        index(args[0]),
-        index(args[1]),
-        &bytes[2..n],
-        &mut out,
-        at_most(room, 4200),
-    )
+    };
+    lend(writer, case, |out: &mut [u8], place| {
+        haafgrim_transpose(*width as usize, *height as usize, grid, out, place)
+    })
 }
 
-fn turn<W: Write>(
-    writer: &mut W,
-    width: usize,
-    height: usize,
-    grid: &[u8],
-    out: &mut [u8],
-    room: usize,
-) -> io::Result<()>
-    requires { room ≤ length out.old }
-{
-    let mut place = 0;
-    let number = haafgrim_transpose(width, height, grid, &mut out[0..room], &mut place);
-    show_bytes(writer, number, place, &out[0..room])
+// A call of no entry.
+pub fn nothing<W: Write>(writer: &mut W, case: Case<'_>) -> io::Result<()> {
+    lend(writer, case, |_: &mut [u32], _| 0)
 }

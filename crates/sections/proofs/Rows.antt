@@ -8,7 +8,7 @@ use lib.ListN.{length, set}
 use Rattle.lists.specs.Each.{each, tab, pairs}
 use Rattle.lists.specs.Wrote.{Wrote}
 use Rattle.lists.proofs.Eaches.{each_same, length_tab}
-use Rattle.lists.proofs.Emitting.{Emitting, emit_first, emit_done}
+use Rattle.lists.proofs.Emitting.{Emitting}
 use Rattle.lists.proofs.Writing.{wrote_ahead}
 use Rattle.literals.specs.Literals.{positive}
 use Rattle.sections.specs.Sections.{clause_words, clauses_words, not_both, at_least_one, at_most_one, row}
@@ -30,14 +30,6 @@ unfolding clause_words
 least_size v n = omega (arith, least_length v n)
 
 module _ (v n : ℕ) where
-  pub variables_first : (out : List ℤ) (at : ℕ) → at + length (at_least_one v n) ≤ length out → Emitting n (λ k. positive (v + k) ∷ []) out at out at 0
-  unfolding at_least_one tab
-  variables_first out at h = emit_first n _ out at h
-
-  pub variables_done : {out₀ out : List ℤ} {at₀ at i : ℕ} → Emitting n (λ k. positive (v + k) ∷ []) out₀ at₀ out at i → n ≤ i → Wrote (at_least_one v n) out₀ at₀ out at
-  unfolding at_least_one tab
-  variables_done E l = emit_done E l
-
   pub least_wrote : (out : List ℤ) (at : ℕ) → at < length out → {z : ℤ} → z ≡ pos n → {out' : List ℤ} {to : ℕ} → Wrote (at_least_one v n) out (at + 1) out' to → Wrote (clause_words (at_least_one v n)) out at (set out' at z) to
   unfolding clause_words
   least_wrote out at h e w = rw (e, least_length v n) (wrote_ahead out at (pos n) h w)

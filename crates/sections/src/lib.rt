@@ -25,12 +25,10 @@ fn put_variables(v: usize, n: usize, out: &mut [i32], at: usize) -> usize
     requires n_in_bounds { at + length (at_least_one v n) ≤ length out.old }
     ensures { Wrote (at_least_one v n) out.old at out.new result }
 {
-    let mut to = at;
     for i in 0..n {
-        out[to] = yes(v + i);
-        to += 1;
+        out[at + i] = yes(v + i);
     }
-    to
+    at + n
 }
 
 // Some of the n variables from v on.

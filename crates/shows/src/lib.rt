@@ -1,5 +1,4 @@
 // Answers as they are shown: a number, a place and a buffer.
 #![tactic(auto)]
 
-mod number;
 pub mod show;

@@ -1,143 +1,90 @@
-// An answer: the number, the place and the first n words of a buffer.
-ghost use Rattle.std.specs.Prelude.{◌≤◌, ◌<◌, length};
-
-use crate::number::{HALF, byte, signed, word};
+// An answer: the number, the place and what a buffer holds.
+use cases::case::Case;
+use std::fmt::Display;
 use std::io;
 use std::io::Write;
 
-pub fn show<W: Write>(
+// What a buffer may hold, and how much of it an entry is lent at most.
+pub trait Shown: Copy + Display + Drop + From<u8> + PartialEq {
+    const MOST: usize;
+}
+
+impl Shown for u8 {
+    const MOST: usize = 4200;
+}
+
+impl Shown for u32 {
+    const MOST: usize = 25600;
+}
+
+impl Shown for i32 {
+    const MOST: usize = 25600;
+}
+
+impl Shown for u64 {
+    const MOST: usize = 25600;
+}
+
+// The buffer is full of sevens before, so that what stays untouched shows.
+pub fn lend<W: Write, T: Shown, F: FnOnce(&mut [T], &mut usize) -> u32>(
     writer: &mut W,
-    number: u32,
-    place: usize,
-    words: &[u32],
-    n: usize,
+    case: Case<'_>,
+    call: F,
 ) -> io::Result<()>
-    requires { n ≤ length words.now }
+    requires { F.IsAlwaysCallable call }
 {
-    let mut numbers = [0u64; 25600];
-    let count = of_words(&words[0..n], &mut numbers);
-    show_numbers(writer, number, place, &numbers, count)
+    let mut lent = vec![in case.alloc; T::from(7); case.room.min(T::MOST)]?;
+    let mut place = 0;
+    let number = call(&mut lent, &mut place);
+    show(writer, number, place, &lent)
 }
 
-pub fn show_bytes<W: Write>(
+pub fn show<W: Write, T: Shown>(
     writer: &mut W,
     number: u32,
     place: usize,
-    bytes: &[u8],
+    items: &[T],
 ) -> io::Result<()> {
-    let mut numbers = [0u64; 4200];
-    let n = of_bytes(bytes, &mut numbers);
-    show_numbers(writer, number, place, &numbers, n)
-}
-
-pub fn show_literals<W: Write>(
-    writer: &mut W,
-    number: u32,
-    place: usize,
-    words: &[i32],
-) -> io::Result<()> {
-    let mut numbers = [0u64; 25600];
-    let n = of_literals(words, &mut numbers);
-    show_numbers(writer, number, place, &numbers, n)
-}
-
-pub fn show_numbers<W: Write>(
-    writer: &mut W,
-    number: u32,
-    place: usize,
-    numbers: &[u64],
-    n: usize,
-) -> io::Result<()>
-    requires { n ≤ length numbers.now }
-{
-    put(writer, number as u64, 1)?;
-    put(writer, place as u64, 1)?;
-    writer.write_all(b":")?;
-    show_runs(writer, numbers, n)?;
-    writer.write_all(b"\n")
+    write!(writer, " {number} {place}:")?;
+    for run in items.chunk_by(|a, b| a == b) {
+        show_run(writer, run)?;
+    }
+    writeln!(writer)
 }
 
 // A number that comes four times or more is written once, with how often: `N*M`.
-fn show_runs<W: Write>(writer: &mut W, numbers: &[u64], n: usize) -> io::Result<()>
-    requires { n ≤ length numbers.now }
-{
-    let mut from = 0;
-    while from < n {
-        let to = run_end(numbers, from, n);
-        if to < from + 4 {
-            put(writer, numbers[from], 1)?;
-            from += 1;
-            continue;
-        }
-        put(writer, numbers[from], (to - from) as u64)?;
-        from = to;
+fn show_run<W: Write, T: Shown>(writer: &mut W, run: &[T]) -> io::Result<()> {
+    if let [n, _, _, _, ..] = run {
+        let times = run.len();
+        return write!(writer, " {n}*{times}");
+    }
+    for n in run {
+        write!(writer, " {n}")?;
     }
     Ok(())
 }
 
-// Where the run of equal numbers that begins at `from` ends, within the first n.
-fn run_end(numbers: &[u64], from: usize, n: usize) -> usize
-    requires { (from < n) × (n ≤ length numbers.now) }
-    ensures { (from < result) × (result ≤ n) }
-{
-    let mut i = from + 1;
-    while i < n {
-        if numbers[i] != numbers[from] {
-            return i;
-        }
-        i += 1;
-    }
-    i
-}
+#[cfg(test)]
+mod tests {
+    use super::*;
+    use std::test::Fail;
 
-fn put<W: Write>(writer: &mut W, n: u64, times: u64) -> io::Result<()> {
-    put_number(writer, n)?;
-    if times == 1 {
-        return Ok(());
+    #[test]
+    fn lent_and_shown(rt: HostRuntime) -> Result<(), Fail> {
+        let mut text: Vec<u8> = Vec::new(rt.alloc());
+        let case = Case {
+            alloc: rt.alloc(),
+            room: 6,
+            args: &[],
+        };
+        lend(&mut text, case, |out: &mut [i32], place| {
+            if let [first, ..] = out {
+                *first = -1;
+            }
+            *place = 2;
+            3
+        })?;
+        assert_eq!(rt; &text[..], &b" 3 2: -1 7*5\n"[..]);
+        Ok(())
     }
-    write!(writer, "*{times}")
-}
-
-fn put_number<W: Write>(writer: &mut W, n: u64) -> io::Result<()> {
-    if n < HALF {
-        return write!(writer, " {n}");
-    }
-    let magnitude = n - HALF;
-    write!(writer, " -{magnitude}")
-}
-
-fn of_bytes(bytes: &[u8], out: &mut [u64]) -> usize
-    ensures { result ≤ length out.old }
-{
-    for i in 0..bytes.len() {
-        if out.len() <= i {
-            return i;
-        }
-        out[i] = byte(bytes[i]);
-    }
-    bytes.len()
-}
-
-fn of_words(words: &[u32], out: &mut [u64]) -> usize
-    ensures { result ≤ length out.old }
-{
-    for i in 0..words.len() {
-        if out.len() <= i {
-            return i;
-        }
-        out[i] = word(words[i]);
-    }
-    words.len()
-}
-
-fn of_literals(words: &[i32], out: &mut [u64]) -> usize
-    ensures { result ≤ length out.old }
-{
-    for i in 0..words.len() {
-        if out.len() <= i {
-            return i;
-        }
-        out[i] = signed(words[i]);
-    }
-    words.len()
 }

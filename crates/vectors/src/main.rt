@@ -4,70 +4,47 @@
 
 mod call;
 
-ghost use Rattle.std.specs.Prelude.{◌≡◌, ◌≤◌, length};
-
+use call::call;
+use cases::case::Case;
 use cases::entry::named;
-use cases::text::{find, numbers};
+use cases::text::numbers;
+use std::alloc::Global;
 use std::io;
 use std::io::{BufWriter, Write};
 use streams::read_full;
 
+// Room for a megabyte of cases.
+const ROOM: usize = 1048576;
+
 fn main(rt: HostRuntime) -> io::Result<()> {
-    let mut input = input_buffer();
+    let mut input = vec![in rt.alloc(); 0; ROOM]?;
     let n = read_full(&mut rt.reader(), &mut input)?;
     let mut writer = BufWriter::new(rt.alloc(), io::writer(&rt))?;
-    answer_all(&mut writer, &input[..n])?;
+    answer_all(&mut writer, rt.alloc(), &input[..n])?;
     writer.flush()
 }
 
-// Room for a megabyte of cases.
-fn input_buffer() -> [u8; 1048576]
-    ensures { 1048576 ≡ length result }
-{
-    [0; 1048576]
-}
-
-// Room for one more number than a probe list may have, behind those of a puzzle.
-fn args_buffer() -> [u32; 1048832]
-    ensures { 1048832 ≡ length result }
-{
-    [0; 1048832]
-}
-
-fn answer_all<W: Write>(writer: &mut W, input: &[u8]) -> io::Result<()> {
-    let mut from = 0;
-    while from < input.len() {
-        let to = find(input, from, b'\n');
-        answer(writer, &input[from..to])?;
-        from = to + 1;
+fn answer_all<W: Write>(writer: &mut W, alloc: Global, input: &[u8]) -> io::Result<()> {
+    for line in input.split_inclusive(|byte| *byte == b'\n') {
+        answer(writer, alloc, line.strip_suffix(b"\n").unwrap_or(line))?;
     }
     Ok(())
 }
 
-// The line, and under it the answer; a comment or an empty line has none.
-fn answer<W: Write>(writer: &mut W, line: &[u8]) -> io::Result<()> {
+// The line, and under it the answer; a comment, or a line without numbers, has none.
+fn answer<W: Write>(writer: &mut W, alloc: Global, line: &[u8]) -> io::Result<()> {
     writer.write_all(line)?;
     writer.write_all(b"\n")?;
-    if line.len() == 0 {
+    if line.starts_with(b"#") {
         return Ok(());
     }
-    if line[0] == b'#' {
+    let Some(name) = line.iter().position(|byte| *byte == b' ') else {
         return Ok(());
-    }
-    let name = find(line, 0, b' ');
-    if name == line.len() {
+    };
+    let all = numbers(alloc, &line[name + 1..])?;
+    let [room, args @ ..] = &all[..] else {
         return Ok(());
-    }
-    let mut args = args_buffer();
-    let n = numbers(&line[name + 1..], &mut args);
-    pass(writer, &line[0..name], &args, n)
-}
-
-fn pass<W: Write>(writer: &mut W, name: &[u8], args: &[u32], n: usize) -> io::Result<()>
-    requires { n ≤ length args.now }
-{
-    if 0 < n {
-        call::call(writer, named(name), args[0], &args[1..n])?;
-    }
-    Ok(())
+    };
+    let room = *room as usize;
+    call(writer, named(&line[..name]), Case { alloc, room, args })
 }

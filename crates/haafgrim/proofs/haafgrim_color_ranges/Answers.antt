@@ -2,4 +2,4 @@ use Rattle.refusals.proofs.Answering.{outcome_of}
 use Rattle.haafgrim.proofs.haafgrim_color_ranges.Goals as goal
 
 pub returns : goal.returns
-returns c = outcome_of _ _ c.color_ranges-answer.ensures c.number.ensures c.place.ensures
+returns c = outcome_of _ _ c.color_ranges.ensures c.tell.ensures.number c.tell.ensures.place

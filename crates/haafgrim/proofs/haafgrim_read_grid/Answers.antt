@@ -2,4 +2,4 @@ use Rattle.refusals.proofs.Answering.{outcome_of}
 use Rattle.haafgrim.proofs.haafgrim_read_grid.Goals as goal
 
 pub returns : goal.returns
-returns c = outcome_of _ _ c.read_grid-answer.ensures c.number.ensures c.place.ensures
+returns c = outcome_of _ _ c.read_grid.ensures c.tell.ensures.number c.tell.ensures.place

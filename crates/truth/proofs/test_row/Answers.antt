@@ -1,19 +1,12 @@
 use mathlib.Core.Path.{sym, ◌∙◌}
 use Rattle.truth.proofs.RowTests.{row_off, row_first, row_stop, row_next, row_done}
-use native.Mathlib.Omega.{arith}
 use Rattle.truth.proofs.test_row.Goals as goal
-
-pub on-requires : goal.on-requires
-on-requires c = (c.requires.x_nonzero.0, c.requires.x_nonzero.1)
 
 pub returns-then-not-on : goal.returns-then-not-on
 returns-then-not-on c = row_off _ _ _ _ c.requires.x_nonzero.0 c.requires.x_nonzero.2 _ (sym c.on.ensures ∙ c.if-not-on.true)
 
 pub loop-j-init : goal.loop-j-init
 loop-j-init c = row_first _ _ _ _ c.requires.x_nonzero.0 c.requires.x_nonzero.2 _
-
-pub on-requires-in-loop-j : goal.on-requires-in-loop-j
-on-requires-in-loop-j c = (omega (arith, c.requires.x_nonzero), omega (arith, c.requires.x_nonzero, c.loop-j-test.true))
 
 pub returns-then-on : goal.returns-then-on
 returns-then-on c = row_stop _ _ _ _ c.requires.x_nonzero.0 c.requires.x_nonzero.2 _ _ (sym c.on.ensures ∙ c.if-not-on.false) c.loop-j.invariant c.loop-j-test.true (sym c.on-in-loop-j.ensures ∙ c.if-on.true)

@@ -5,8 +5,5 @@ use Rattle.bits.proofs.mask.solved.Goals as goal
 pub returns-then-mask-eq0 : goal.returns-then-mask-eq0
 returns-then-mask-eq0 c = solved_none _ (omega arith) c.if-mask-eq0.true
 
-pub overflow_sub-result : goal.overflow_sub-result
-overflow_sub-result c = omega arith
-
 pub returns : goal.returns
 returns c = solved_alone _ (omega arith) (omega arith)

@@ -1,10 +1,11 @@
 use native.Mathlib.Omega.{arith}
-use mathlib.Core.Path.{refl}
-use Rattle.refusals.proofs.Answering.{answers_refused}
+use Rattle.refusals.proofs.Answering.{answers_short, answers_wrote}
 use Rattle.clauses.proofs.call.clauses.Goals as goal
 
-pub write_clauses-requires : goal.write_clauses-requires
-write_clauses-requires c = (rw c.in-Read.is at c.read_puzzle-reading.ensures, omega (arith, c.read_puzzle-reading.auto.table))
+pub returns-then-out-counts : goal.returns-then-out-counts
+returns-then-out-counts c = answers_short _ _ c.in_ok-board.ensures.checked (rw (← c.new-reading.ensures.puzzle) c.count_all-counts.ensures.words_is) c.if-out-counts.true
 
-pub returns-in-Refused : goal.returns-in-Refused
-returns-in-Refused c = answers_refused _ _ refl (rw c.in-Refused.is at c.read_puzzle-reading.ensures)
+pub returns : goal.returns
+returns c =
+    answers_wrote _ _ c.in_ok-board.ensures.checked (rw (← c.new-reading.ensures.puzzle) (omega (arith, c.count_all-counts.ensures.words_is, c.if-out-counts.false)))
+    (rw (← c.new-reading.ensures.puzzle) c.write_sections.ensures)

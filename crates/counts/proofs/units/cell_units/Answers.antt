@@ -1,20 +1,13 @@
 use native.Mathlib.Omega.{arith}
 use mathlib.Core.Path.{sym, ◌∙◌}
-use lib.Count.{ones-le}
 use Rattle.counts.proofs.UnitClauses.{units_most_ones, units_unsolved, units_blank, units_color}
 use Rattle.counts.proofs.units.cell_units.Goals as goal
 
 pub overflow_sub-result : goal.overflow_sub-result
 overflow_sub-result c = omega (arith, units_most_ones c.args.colors (omega arith) c.requires c.args.mask)
 
-pub overflow_cast-result : goal.overflow_cast-result
-overflow_cast-result c = omega (arith, ones-le 32 c.args.colors (omega arith))
-
 pub returns-then-not-solved : goal.returns-then-not-solved
 returns-then-not-solved c = units_unsolved _ (omega arith) c.requires _ (sym c.solved.ensures ∙ c.if-not-solved.true)
-
-pub overflow_cast-result-then-has : goal.overflow_cast-result-then-has
-overflow_cast-result-then-has c = omega (arith, ones-le 32 c.args.colors (omega arith))
 
 pub returns-then-has : goal.returns-then-has
 returns-then-has c = units_blank _ (omega arith) c.requires _ (sym c.solved.ensures ∙ c.if-not-solved.false) (sym c.has.ensures ∙ c.if-has.true)

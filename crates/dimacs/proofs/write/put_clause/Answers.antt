@@ -1,5 +1,5 @@
 use Rattle.dimacs.proofs.ClauseLines.{filling_first, filling_kept, filling_next, literal_room, space_room, space_at, end_room, line_wrote}
-use lib.ListN.{get_or, length-set}
+use lib.ListN.{get_or}
 use lib.IntN.{pos}
 use native.Mathlib.Omega.{arith}
 use mathlib.Core.Path.{◌∙◌}
@@ -24,20 +24,11 @@ overflow_add-to c = omega (arith, space_at c.loop-word.invariant (omega (arith, 
 pub loop-word-preserved : goal.loop-word-preserved
 loop-word-preserved c = filling_next c.loop-word.invariant (omega (arith, c.loop-word-test.true)) (c.of_word.ensures ∙ word_is _ (omega arith)) c.put_literal-to.ensures
 
-pub bounds-out-to-2 : goal.bounds-out-to-2
-bounds-out-to-2 c = omega (arith, end_room c.loop-word.invariant (omega arith))
-
-pub overflow_add-out : goal.overflow_add-out
-overflow_add-out c = omega (arith, end_room c.loop-word.invariant (omega arith), filling_kept c.loop-word.invariant)
-
-pub bounds-out-to-3 : goal.bounds-out-to-3
-bounds-out-to-3 c = rw length-set (omega (arith, end_room c.loop-word.invariant (omega arith)))
-
-pub overflow_add-result : goal.overflow_add-result
-overflow_add-result c = omega (arith, end_room c.loop-word.invariant (omega arith), filling_kept c.loop-word.invariant)
+pub put_slice-requires : goal.put_slice-requires
+put_slice-requires c = end_room c.loop-word.invariant (omega arith)
 
 pub shape_of-out : goal.shape_of-out
-shape_of-out c = simp length-set (filling_kept c.loop-word.invariant)
+shape_of-out c = c.put_slice.auto.out ∙ filling_kept c.loop-word.invariant
 
 pub returns : goal.returns
-returns c = line_wrote c.loop-word.invariant (omega arith)
+returns c = line_wrote c.loop-word.invariant (omega arith) c.put_slice.ensures

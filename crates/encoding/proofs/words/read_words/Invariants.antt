@@ -1,12 +1,8 @@
-use mathlib.Core.Path.{◌≡◌}
-use Prim.Native.Nat.{◌-◌, ◌/◌}
+use Prim.Native.Nat.{◌/◌}
 use lib.ListN.{length}
 use Rattle.lists.proofs.Emitting.{Emitting}
 use Rattle.encoding.proofs.InputWords.{word_at}
 use Rattle.encoding.proofs.words.read_words.Given as goal
 
 abbrev pub invariant-loop-i : goal.invariant-loop-i
-invariant-loop-i l = (l.n ≡ length l.bytes / 4) × Emitting (length l.bytes / 4) (word_at l.bytes) l.initial.out 0 l.out l.i l.i
-
-abbrev pub decreases-loop-i : goal.decreases-loop-i
-decreases-loop-i l = l.n - l.i
+invariant-loop-i l = Emitting (length l.bytes / 4) (word_at l.bytes) l.initial.out 0 l.out l.i l.i

@@ -1,16 +1,11 @@
-use mathlib.Core.Path.{sym, ◌∙◌}
+use mathlib.Core.Path.{sym}
 use native.Mathlib.Omega.{arith}
-use lib.ListN.{length-set}
-use Rattle.refusals.proofs.Answering.{handed, refused_first, answers_refused, answers_short, answers_wrote}
+use Rattle.refusals.proofs.Answering.{answers_short, answers_wrote}
 use Rattle.lines.proofs.Checks.{clue_ok}
 use Rattle.lines.proofs.ClueWords.{starts_words_length, starts_wrote}
-use borrow.Author.Rules.{rules}
 use Rattle.lines.proofs.clue.starts.Goals as goal
 
 -- `ok` in these answers: the clue is accepted
-
-pub returns-in_err-space : goal.returns-in_err-space
-returns-in_err-space c = rw (handed c.from_residual.result c.from_residual.ensures.1) (answers_refused _ _ _ (refused_first _ _ _ c.in_err-space.ensures))
 
 pub returns-then-out-need : goal.returns-then-out-need
 returns-then-out-need c =
@@ -32,19 +27,10 @@ overflow_cast-out-2 c =
     let ok = clue_ok _ _ c.in_ok-space.ensures in
     omega (arith, ok)
 
-pub bounds-out-1 : goal.bounds-out-1
-bounds-out-1 c = simp length-set (search rules)
-
 pub block_starts-requires-clause-clue_bound : goal.block_starts-requires-clause-clue_bound
 block_starts-requires-clause-clue_bound c =
     let ok = clue_ok _ _ c.in_ok-space.ensures in
     omega (arith, ok)
-
-pub block_starts-requires-clause-clue_in_bounds : goal.block_starts-requires-clause-clue_in_bounds
-block_starts-requires-clause-clue_in_bounds c = simp length-set (search rules)
-
-pub shape_of-out : goal.shape_of-out
-shape_of-out c = c.block_starts.auto.out ∙ simp length-set
 
 pub returns : goal.returns
 returns c =

@@ -18,11 +18,6 @@ overflow_sub-result c =
     let clear = clear_is gap (run c.args.earlier) (run c.args.later) c.requires.0 in
     omega (arith, clear)
 
-pub overflow_sub-result-2 : goal.overflow_sub-result-2
-overflow_sub-result-2 c =
-    let clear = clear_is gap (run c.args.earlier) (run c.args.later) c.requires.0 in
-    omega (arith, clear, c.wide.ensures, c.gap.ensures)
-
 pub returns : goal.returns
 returns c =
     let a = c.args in

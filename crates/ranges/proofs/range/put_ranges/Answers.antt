@@ -1,5 +1,5 @@
 use native.Mathlib.Omega.{arith}
-use Rattle.lists.proofs.Emitting.{emit_first, emit_kept, emit_next, emit_done}
+use Rattle.lists.proofs.Emitting.{emit_first, emit_next, emit_done}
 use Rattle.lines.specs.Clue.{blocks, gap, packed}
 use Rattle.ranges.proofs.Ranges.{ranges_length, pair_room}
 use Rattle.ranges.proofs.range.put_ranges.Goals as goal
@@ -12,9 +12,6 @@ put_range-at-requires-clause-at_in_bounds c = pair_room _ _ c.loop-k.invariant c
 
 pub loop-k-preserved : goal.loop-k-preserved
 loop-k-preserved c = emit_next c.loop-k.invariant c.loop-k-test.true c.put_range-at.ensures
-
-pub shape_of-out : goal.shape_of-out
-shape_of-out c = emit_kept c.loop-k.invariant
 
 pub returns : goal.returns
 returns c = emit_done c.loop-k.invariant c.loop-k-test.false

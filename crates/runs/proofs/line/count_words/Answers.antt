@@ -5,9 +5,6 @@ use Rattle.runs.proofs.line.count_words.Goals as goal
 pub loop-next-init : goal.loop-next-init
 loop-next-init c = counting_first _
 
-pub overflow_add-count : goal.overflow_add-count
-overflow_add-count c = omega (arith, c.loop-next.invariant.few, c.run_begins-count.ensures.1)
-
 pub loop-next-preserved : goal.loop-next-preserved
 loop-next-preserved c = counting_next c.loop-next.invariant (omega arith) c.run_begins-count.ensures.0 c.run_begins-count.ensures.1
 

@@ -1,10 +1,7 @@
 use native.Mathlib.Omega.{arith}
 use borrow.Author.Tests.{lt-ltb, le-ltb}
-use Rattle.refusals.proofs.Offending.{searching_first, searching_found, searching_next, searching_done}
+use Rattle.refusals.proofs.Offending.{searching_found, searching_next, searching_done}
 use Rattle.runs.proofs.line.find_byte.Goals as goal
-
-pub loop-i-init : goal.loop-i-init
-loop-i-init c = searching_first _ _ _ _
 
 pub returns-then-color-gt31 : goal.returns-then-color-gt31
 returns-then-color-gt31 c = searching_found c.loop-i.invariant 0 (omega arith) (lt-ltb _ _ c.if-color-gt31.true)

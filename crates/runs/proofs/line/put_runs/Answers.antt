@@ -1,27 +1,9 @@
-use mathlib.Core.Path.{◌∙◌}
 use native.Mathlib.Omega.{arith}
-use Rattle.lists.proofs.Writing.{fill_kept}
 use Rattle.runs.proofs.LineCells.{running_first, running_same, running_room, running_next, running_room_last, running_done, strided_in, strided_out, strided_cell}
 use Rattle.runs.proofs.line.put_runs.Goals as goal
 
 pub loop-i-init : goal.loop-i-init
 loop-i-init c = running_first _ _ _ c.requires.1
-
-pub overflow_mul-next : goal.overflow_mul-next
-overflow_mul-next c =
-    let p = c.requires.0 in
-    omega (arith, p.inside c.loop-i.i c.loop-i-test.true, p.small)
-
-pub overflow_add-next : goal.overflow_add-next
-overflow_add-next c =
-    let p = c.requires.0 in
-    omega (arith, p.inside c.loop-i.i c.loop-i-test.true, p.small)
-
-pub bounds-cells-i : goal.bounds-cells-i
-bounds-cells-i c = c.requires.0.inside c.loop-i.i c.loop-i-test.true
-
-pub overflow_add-size : goal.overflow_add-size
-overflow_add-size c = omega (arith, c.loop-i.invariant.small, c.requires.0.few)
 
 pub loop-i-preserved-then-next-color : goal.loop-i-preserved-then-next-color
 loop-i-preserved-then-next-color c =
@@ -38,9 +20,6 @@ loop-i-preserved c = running_next c.loop-i.invariant (strided_in _ _ _ _ c.loop-
 
 pub put_run-requires : goal.put_run-requires
 put_run-requires c = running_room_last c.loop-i.invariant (strided_out _ _ _ _ c.loop-i-test.false)
-
-pub shape_of-out : goal.shape_of-out
-shape_of-out c = c.put_run.auto.out ∙ fill_kept c.loop-i.invariant.fill
 
 pub returns : goal.returns
 returns c = running_done c.loop-i.invariant (strided_out _ _ _ _ c.loop-i-test.false) c.put_run.ensures

@@ -1,7 +1,7 @@
 use mathlib.Core.Path.{sym, ◌∙◌}
 use native.Mathlib.Omega.{arith}
 use Rattle.refusals.proofs.Answering.{handed, answers_refused, answers_short, answers_wrote}
-use Rattle.lines.proofs.Checks.{length_refused, length_passed, size_within}
+use Rattle.lines.proofs.Checks.{length_refused, length_passed}
 use Rattle.runs.proofs.line.read_line.Goals as goal
 
 pub returns-then-off_size : goal.returns-then-off_size
@@ -10,17 +10,8 @@ returns-then-off_size c = answers_refused _ _ _ (length_refused _ (sym c.off_siz
 pub returns-in_err-check_bytes : goal.returns-in_err-check_bytes
 returns-in_err-check_bytes c = rw (handed c.from_residual.result c.from_residual.ensures.1) (answers_refused _ _ _ (c.in_err-check_bytes.ensures ∙ length_passed _ (sym c.off_size.ensures ∙ c.if-off_size.false)))
 
-pub count_words-need-requires : goal.count_words-need-requires
-count_words-need-requires c = size_within _ (sym c.off_size.ensures ∙ c.if-off_size.false)
-
 pub returns-then-out-need : goal.returns-then-out-need
 returns-then-out-need c = answers_short _ _ (c.in_ok-check_bytes.ensures ∙ length_passed _ (sym c.off_size.ensures ∙ c.if-off_size.false)) c.count_words-need.ensures c.if-out-need.true
-
-pub from_line-requires : goal.from_line-requires
-from_line-requires c = (size_within _ (sym c.off_size.ensures ∙ c.if-off_size.false), omega (arith, c.count_words-need.ensures))
-
-pub shape_of-out : goal.shape_of-out
-shape_of-out c = c.from_line.auto.out
 
 pub returns : goal.returns
 returns c = answers_wrote _ _ (c.in_ok-check_bytes.ensures ∙ length_passed _ (sym c.off_size.ensures ∙ c.if-off_size.false)) (omega (arith, c.count_words-need.ensures, c.if-out-need.false)) c.from_line.ensures

@@ -1,6 +1,0 @@
-use lib.ListN.{length-set}
-use borrow.Author.Rules.{rules}
-use Rattle.shows.proofs.show.of_literals.Goals as goal
-
-pub loop-i-preserved : goal.loop-i-preserved
-loop-i-preserved c = simp length-set (search rules)
