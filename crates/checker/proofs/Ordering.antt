@@ -7,7 +7,7 @@ use native.Mathlib.Omega.{arith}
 use native.Mathlib.Nat.{mul-le-mul_right}
 use lib.ListN.{length}
 use borrow.Author.Tests.{eq-eqb, ne_eqb}
-use Rattle.refusals.specs.Verdict.{Checks, accepted, refused, passed, refuse, and_then, first_off}
+use Rattle.refusals.specs.Verdict.{Verdict, Checks, accepted, refused, passed, refuse, and_then, first_off}
 use Rattle.refusals.specs.Told.{refusal}
 use Rattle.refusals.specs.declared.Refusal.{Refusal}
 use Rattle.refusals.proofs.Answering.{refusal_is, handed_up}
@@ -26,14 +26,15 @@ use Rattle.counts.specs.Families.{clauses}
 use Rattle.checker.specs.Models.{value_checks, clause_checks, cell_checks, model_checks}
 
 -- tests that refuse say 15 at the first false clause, as the checks do
-tested_refused : (β : Assignment) (m q p : ℕ) (cs : List Clause) → refused m q ≡ tested β p cs → refused m q ≡ first_off (λ c. not (clause_true β c)) 15 p cs
-unfolding tested first_off
-tested_refused β m q p [] e = absurd (let z : ◌≡◌ {A = ℕ} 0 1 = cc in omega arith)
-tested_refused β m q p (c ∷ cs) e = cases (clause_true β c) e
-  where
-    cases : (b : Bool) → refused m q ≡ refuse (not b) 15 p (tested β (p + 1) cs) → refused m q ≡ refuse (not b) 15 p (first_off (λ c. not (clause_true β c)) 15 (p + 1) cs)
-    cases true e = tested_refused β m q (p + 1) cs e
-    cases false e = cc
+module _ (β : Assignment) (m q : ℕ) where
+  stopped : (b : Bool) (p : ℕ) (u : Checks) (v : Verdict ℕ) → (refused m q ≡ v → refused m q ≡ u) → refused m q ≡ refuse b 15 p v → refused m q ≡ refuse b 15 p u
+  stopped true p u v h e = let k : m ≡ 15 = cc in let l : q ≡ p = cc in rw (k, l)
+  stopped false p u v h e = h e
+
+  tested_refused : (p : ℕ) (cs : List Clause) → refused m q ≡ tested β p cs → refused m q ≡ first_off (λ c. not (clause_true β c)) 15 p cs
+  unfolding tested first_off
+  tested_refused p [] e = let z : ◌≡◌ {A = ℕ} 0 1 = cc in absurd (omega arith)
+  tested_refused p (c ∷ cs) e = stopped (not (clause_true β c)) p _ _ (tested_refused (p + 1) cs) e
 
 module _ {ws table : List ℕ} {board : Board} {colors : List ℕ} (G : Given ws table board colors) where
   abbrev z : Puzzle
@@ -91,7 +92,7 @@ module _ {ws table : List ℕ} {board : Board} {colors : List ℕ} (G : Given ws
         pub clauses_refused : passed ≡ value_checks model → refusal why ≡ tested (value model) 0 (clauses z) → refusal why ≡ model_checks z model
         clauses_refused e f =
             let g : refusal why ≡ clause_checks (value model) (clauses z) = refusal_is why ∙ tested_refused (value model) _ _ 0 (clauses z) (sym (refusal_is why) ∙ f) in
-            handed_up why g _ ∙ rw (own_length, ← e)
+            handed_up why g (cell_checks (value model) board.first (board.width * board.height) (length colors)) ∙ rw (own_length, ← e)
 
       -- 16
       pub cells_tell : passed ≡ value_checks model → {n : ℕ} → accepted n ≡ tested (value model) 0 (clauses z)
