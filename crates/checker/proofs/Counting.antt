@@ -1,11 +1,12 @@
 -- What the loops over a model find: its first bad byte, how many variables are true, the first cell with two.
-use mathlib.Core.Path.{◌≡◌, refl}
-use mathlib.Core.Bool.{true, false}
+use mathlib.Core.Path.{◌≡◌, refl, ap}
+use mathlib.Core.Bool.{Bool, true, false, cond}
 use Prim.Native.Nat.{ℕ, zero, suc, ◌+◌, ◌*◌, ◌≤◌, ◌<◌}
 use native.Mathlib.Omega.{arith}
 use native.Mathlib.Numerals.{add-one}
 use lib.Dec.{ltb}
 use lib.ListN.{length}
+use mir.Val.{bool_byte}
 use borrow.Author.Tests.{lt-ltb, le-ltb}
 use Rattle.lists.specs.Each.{tab, sum}
 use Rattle.lists.proofs.Eaches.{length_tab, get_or_tab}
@@ -20,14 +21,13 @@ module _ (β : Assignment) (v : ℕ) where
   unfolding trues sum
   trues_none = refl
 
-  module _ (r : ℕ) {total : ℕ} (e : total ≡ trues β v r) where
-    pub trues_on : β (v + r) ≡ true → total + 1 ≡ trues β v (r + 1)
-    unfolding trues sum
-    trues_on q = rw (add-one r, q, e)
-
-    pub trues_off : β (v + r) ≡ false → total ≡ trues β v (r + 1)
-    unfolding trues sum
-    trues_off q = rw (add-one r, q, e) (omega arith)
+  pub trues_next : (r : ℕ) {total n : ℕ} → total ≡ trues β v r → n ≡ bool_byte (β (v + r)) → total + n ≡ trues β v (r + 1)
+  unfolding trues sum
+  trues_next r e q = rw (add-one r, e, q) (ap (λ m. trues β v r + m) (byte_is (β (v + r))))
+    where
+      byte_is : (b : Bool) → bool_byte b ≡ cond b 1 0
+      byte_is true = refl
+      byte_is false = refl
 
   pub trues_most : (n : ℕ) → trues β v n ≤ n
   unfolding trues sum

@@ -1,18 +1,20 @@
 -- The order of a model's refusals, as the checker gives them one after another.
 use mathlib.Core.Path.{◌≡◌, sym, ◌∙◌}
-use mathlib.Core.List.{List}
+use mathlib.Core.Bool.{Bool, true, false, not}
+use mathlib.Core.List.{List, [], ◌∷◌}
 use Prim.Native.Nat.{ℕ, ◌+◌, ◌-◌, ◌*◌, ◌≤◌, ◌<◌}
 use native.Mathlib.Omega.{arith}
 use native.Mathlib.Nat.{mul-le-mul_right}
 use lib.ListN.{length}
 use borrow.Author.Tests.{eq-eqb, ne_eqb}
-use Rattle.refusals.specs.Verdict.{Checks, refused, and_then}
-use Rattle.refusals.specs.Told.{checked}
+use Rattle.refusals.specs.Verdict.{Verdict, Checks, accepted, refused, passed, refuse, and_then, first_off}
+use Rattle.refusals.specs.Told.{refusal}
 use Rattle.refusals.specs.declared.Refusal.{Refusal}
-use Rattle.refusals.specs.declared.Answer.{Answer}
-use Rattle.refusals.specs.declared.Answer.TheVariants.{Accepted, Refused}
-use Rattle.refusals.proofs.Answering.{handed_on, goes_on}
-use Rattle.truth.specs.Truth.{value}
+use Rattle.refusals.proofs.Answering.{refusal_is, handed_up}
+use Rattle.sections.specs.Sections.{Clause}
+use Rattle.truth.specs.Truth.{Assignment, value, clause_true}
+use Rattle.truth.specs.Tested.{tested}
+use Rattle.truth.proofs.AllTested.{tested_fine}
 use Rattle.puzzles.specs.Puzzle.{Puzzle, width, height}
 use Rattle.puzzles.specs.Checks.{puzzle}
 use Rattle.boards.specs.declared.board.Board.{Board}
@@ -22,6 +24,17 @@ use Rattle.cells.specs.Given.{Given}
 use Rattle.cells.proofs.BoardCells.{given_shows}
 use Rattle.counts.specs.Families.{clauses}
 use Rattle.checker.specs.Models.{value_checks, clause_checks, cell_checks, model_checks}
+
+-- tests that refuse say 15 at the first false clause, as the checks do
+module _ (β : Assignment) (m q : ℕ) where
+  stopped : (b : Bool) (p : ℕ) (u : Checks) (v : Verdict ℕ) → (refused m q ≡ v → refused m q ≡ u) → refused m q ≡ refuse b 15 p v → refused m q ≡ refuse b 15 p u
+  stopped true p u v h e = let k : m ≡ 15 = cc in let l : q ≡ p = cc in rw (k, l)
+  stopped false p u v h e = h e
+
+  tested_refused : (p : ℕ) (cs : List Clause) → refused m q ≡ tested β p cs → refused m q ≡ first_off (λ c. not (clause_true β c)) 15 p cs
+  unfolding tested first_off
+  tested_refused p [] e = let z : ◌≡◌ {A = ℕ} 0 1 = cc in absurd (omega arith)
+  tested_refused p (c ∷ cs) e = stopped (not (clause_true β c)) p _ _ (tested_refused (p + 1) cs) e
 
 module _ {ws table : List ℕ} {board : Board} {colors : List ℕ} (G : Given ws table board colors) where
   abbrev z : Puzzle
@@ -70,16 +83,18 @@ module _ {ws table : List ℕ} {board : Board} {colors : List ℕ} (G : Given ws
       pub cells_within : board.first + board.width * board.height * length colors ≤ length model + 1
       cells_within = omega (arith, variables_is, few.some)
 
-      -- 14
-      pub bytes_refused : (a : Answer) {why : Refusal} → a ≡ Refused why → checked a ≡ value_checks model → checked a ≡ model_checks z model
-      bytes_refused a d e = handed_on e d _ ∙ sym own_length
+      module _ (why : Refusal) where
+        -- 14
+        pub bytes_refused : refusal why ≡ value_checks model → refusal why ≡ model_checks z model
+        bytes_refused e = handed_up why e _ ∙ sym own_length
 
-      module _ (a : Answer) {n : ℕ} (d : a ≡ Accepted n) (e : checked a ≡ value_checks model) where
         -- 15
-        pub clauses_refused : (b : Answer) {why : Refusal} → b ≡ Refused why → checked b ≡ clause_checks (value model) (clauses z) → checked b ≡ model_checks z model
-        clauses_refused b q f = handed_on f q _ ∙ goes_on e d _ ∙ sym own_length
+        pub clauses_refused : passed ≡ value_checks model → refusal why ≡ tested (value model) 0 (clauses z) → refusal why ≡ model_checks z model
+        clauses_refused e f =
+            let g : refusal why ≡ clause_checks (value model) (clauses z) = refusal_is why ∙ tested_refused (value model) _ _ 0 (clauses z) (sym (refusal_is why) ∙ f) in
+            handed_up why g (cell_checks (value model) board.first (board.width * board.height) (length colors)) ∙ rw (own_length, ← e)
 
-        -- 16
-        pub cells_tell : (b : Answer) {m : ℕ} → b ≡ Accepted m → checked b ≡ clause_checks (value model) (clauses z)
-            → {v : Checks} → v ≡ cell_checks (value model) board.first (board.width * board.height) (length colors) → v ≡ model_checks z model
-        cells_tell b q f g = g ∙ goes_on f q _ ∙ goes_on e d _ ∙ sym own_length
+      -- 16
+      pub cells_tell : passed ≡ value_checks model → {n : ℕ} → accepted n ≡ tested (value model) 0 (clauses z)
+          → {v : Checks} → v ≡ cell_checks (value model) board.first (board.width * board.height) (length colors) → v ≡ model_checks z model
+      cells_tell e f g = g ∙ rw (own_length, ← e, ← tested_fine (value model) 0 (clauses z) f)

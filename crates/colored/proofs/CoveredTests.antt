@@ -6,15 +6,15 @@ use Prim.Native.Nat.{ℕ, ◌+◌, ◌≤◌, ◌<◌}
 use native.Mathlib.Omega.{arith}
 use native.Mathlib.Nat.{add-zero}
 use lib.IntN.{ℤ}
-use lib.ListN.{length, take, get_or, length-take}
-use lib.Seq.{get_or-take}
+use lib.ListN.{length, get_or}
 use Rattle.lists.specs.Each.{each}
 use Rattle.lists.proofs.Eaches.{rest, rest_first, rest_next, rest_done}
 use Rattle.literals.specs.Literals.{positive, negative}
 use Rattle.sections.specs.Sections.{Clause}
+use Rattle.refusals.specs.Verdict.{accepted, refused}
+use Rattle.refusals.specs.declared.Refusal.TheVariants.{FalseClause}
 use Rattle.truth.specs.Truth.{Assignment, literal_true, clause_true}
-use Rattle.truth.specs.Tested.{tested, said}
-use Rattle.truth.specs.declared.Tested.TheVariants.{Fine, False}
+use Rattle.truth.specs.Tested.{tested}
 use Rattle.truth.proofs.Testing.{Testing, testing_first, testing_stop, testing_next, testing_done}
 use Rattle.truth.proofs.RowTests.{negative_true, one_true, one_false}
 use Rattle.puzzles.specs.Puzzle.{Puzzle}
@@ -58,17 +58,6 @@ module _ (β : Assignment) where
   last_false [] l e = rw e
   last_false (m ∷ c) l e = rw (last_false c l e)
 
--- what was found: the first n of a list
-pub record Found (found us : List ℕ) (n : ℕ) : Type 0 where
-  pub many : length us ≡ n
-  pub same : (i : ℕ) → i < n → get_or found i 0 ≡ get_or us i 0
-
-pub found_are : (found us : List ℕ) (n : ℕ) → n ≤ length found → take n found ≡ us → Found found us n
-found_are found us n h e = record {
-  many = omega (arith, ap length e, length-take n found);
-  same = λ i l. rw (← e, get_or-take n found i 0 l);
-}
-
 -- ---- a loop over the clauses of a cell's two lines
 
 module _ (β : Assignment) (z : Puzzle) (c v x row y at : ℕ) where
@@ -87,7 +76,7 @@ module _ (β : Assignment) (z : Puzzle) (c v x row y at : ℕ) where
     unfolding ruled
     side_true e =
         let q : at + s + 1 ≡ at + (s + 1) = omega arith in
-        rw q at (testing_next T h (Fine (at + s + 1)) (one_true β (at + s) _ e) refl)
+        rw q at (testing_next T h (one_true β (at + s) _ e))
 
     pub side_off : β v ≡ false → SidesTesting (s + 1)
     side_off e = side_true (last_true β (map positive (on_side z c x row y s)) (negative v) (negative_true β v some ∙ rw e))
@@ -96,11 +85,11 @@ module _ (β : Assignment) (z : Puzzle) (c v x row y at : ℕ) where
       pub side_on : i < length (on_side z c x row y s) → β (get_or (on_side z c x row y s) i 0) ≡ true → SidesTesting (s + 1)
       side_on l e = side_true (last_false β (map positive (on_side z c x row y s)) (negative v) (negative_true β v some ∙ rw on) ∙ seeking_true β (on_side z c x row y s) S l e)
 
-      pub side_false : length (on_side z c x row y s) ≤ i → said (False (at + s)) ≡ tested β at (each 2 (of_side z Color c v x row y))
+      pub side_false : length (on_side z c x row y s) ≤ i → refused 15 (at + s) ≡ tested β at (each 2 (of_side z Color c v x row y))
       unfolding ruled
-      side_false l = testing_stop T h (False (at + s)) (one_false β (at + s) _ (last_false β (map positive (on_side z c x row y s)) (negative v) (negative_true β v some ∙ rw on) ∙ seeking_false β (on_side z c x row y s) S l)) refl
+      side_false l = testing_stop T h (FalseClause (at + s)) (one_false β (at + s) _ (last_false β (map positive (on_side z c x row y s)) (negative v) (negative_true β v some ∙ rw on) ∙ seeking_false β (on_side z c x row y s) S l))
 
-  pub sides_done : {s : ℕ} → SidesTesting s → 2 ≤ s → said (Fine (at + 2)) ≡ tested β at (each 2 (of_side z Color c v x row y))
+  pub sides_done : {s : ℕ} → SidesTesting s → 2 ≤ s → accepted (at + 2) ≡ tested β at (each 2 (of_side z Color c v x row y))
   unfolding ruled each
   sides_done {s} T h =
       let q : at + s ≡ at + 2 = omega (arith, T.room) in

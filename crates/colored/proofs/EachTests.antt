@@ -6,10 +6,11 @@ use native.Mathlib.Omega.{arith}
 use lib.ListN.{length, get_or}
 use Rattle.lists.specs.Each.{each}
 use Rattle.sections.specs.Sections.{at_most_one}
+use Rattle.refusals.specs.Verdict.{accepted}
+use Rattle.refusals.specs.Told.{refusal}
+use Rattle.refusals.specs.declared.Refusal.{Refusal}
 use Rattle.truth.specs.Truth.{Assignment}
-use Rattle.truth.specs.Tested.{tested, said, Countable}
-use Rattle.truth.specs.declared.Tested.{Tested}
-use Rattle.truth.specs.declared.Tested.TheVariants.{Fine, False}
+use Rattle.truth.specs.Tested.{tested, Countable}
 use Rattle.truth.proofs.Testing.{Testing, testing_room, testing_stop, testing_next, testing_done}
 use Rattle.puzzles.specs.Puzzle.{Puzzle}
 use Rattle.puzzles.specs.Checks.{puzzle}
@@ -35,14 +36,13 @@ module _ {ws table : List ℕ} {board : Board} {palette : List ℕ} (G : Given w
     pub cell_room : Countable p (of_cell (puzzle ws) rule x y) → Countable q (both (puzzle ws) board (ask_of G rule x y r) x y)
     cell_room h = rw (color_is G rule x y r) (testing_room T below h)
 
-    module _ (t : Tested) (e : said t ≡ tested β q (both (puzzle ws) board (ask_of G rule x y r) x y)) where
-      pub cell_stop : {n : ℕ} → t ≡ False n → said t ≡ tested β p (of_cell (puzzle ws) rule x y)
-      cell_stop d = testing_stop T below t (rw (color_is G rule x y r) at e) d
+    pub cell_stop : (why : Refusal) → refusal why ≡ tested β q (both (puzzle ws) board (ask_of G rule x y r) x y) → refusal why ≡ tested β p (of_cell (puzzle ws) rule x y)
+    cell_stop why e = testing_stop T below why (rw (color_is G rule x y r) at e)
 
-      pub cell_next : {n : ℕ} → t ≡ Fine n → CellTesting β (puzzle ws) rule x y p n (r + 1)
-      cell_next d = testing_next T below t (rw (color_is G rule x y r) at e) d
+    pub cell_next : {n : ℕ} → accepted n ≡ tested β q (both (puzzle ws) board (ask_of G rule x y r) x y) → CellTesting β (puzzle ws) rule x y p n (r + 1)
+    cell_next e = testing_next T below (rw (color_is G rule x y r) at e)
 
-  pub cell_done : length palette ≤ r → said (Fine q) ≡ tested β p (of_cell (puzzle ws) rule x y)
+  pub cell_done : length palette ≤ r → accepted q ≡ tested β p (of_cell (puzzle ws) rule x y)
   cell_done h = testing_done T (omega (arith, (given_shows G).hues_are))
 
 -- ---- 9

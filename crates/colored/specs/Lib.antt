@@ -1,2 +1,3 @@
 pub mod Models
 pub mod Sides
+pub mod Held

@@ -3,77 +3,60 @@ use mathlib.Core.Path.{◌≡◌, sym, ap, ◌∙◌}
 use mathlib.Core.List.{List}
 use Prim.Native.Nat.{ℕ, ◌+◌, ◌*◌, ◌≤◌, ◌<◌}
 use native.Mathlib.Omega.{arith}
-use lib.ListN.{length, take}
-use Rattle.lists.specs.Wrote.{Wrote}
+use lib.ListN.{length}
 use Rattle.lists.proofs.Eaches.{length_tab}
-use Rattle.refusals.specs.Told.{checked}
-use Rattle.refusals.specs.declared.Answer.{Answer}
-use Rattle.refusals.specs.declared.Answer.TheVariants.{Accepted}
-use Rattle.refusals.proofs.Answering.{accepted_passed}
+use Rattle.refusals.specs.Verdict.{Checks, passed, and_then}
+use Rattle.refusals.proofs.Answering.{then_accepted}
 use Rattle.literals.specs.Literals.{largest}
 use Rattle.sections.specs.Sections.{clause_words}
 use Rattle.truth.specs.Truth.{Assignment}
+use Rattle.puzzles.specs.Puzzle.{Puzzle}
 use Rattle.puzzles.specs.Checks.{puzzle}
-use Rattle.tables.specs.Layout.{table_size}
-use Rattle.boards.specs.Reading.{Held}
 use Rattle.boards.specs.declared.board.Board.{Board}
-use Rattle.numbering.specs.Variables as N
-use Rattle.numbering.proofs.Palettes.{palette_taken}
-use Rattle.numbering.proofs.Parts.{held_ready}
+use Rattle.numbering.specs.Variables.{variables}
 use Rattle.cells.specs.Given.{Given}
 use Rattle.cells.proofs.BoardCells.{given_shows}
 use Rattle.pictures.specs.Pictures.{shown, blocking}
 use Rattle.pictures.proofs.ColorsOfK.{hue_most}
 use Rattle.checker.specs.Models.{trues, model_checks}
-use Rattle.models.specs.Shown.{cell_colors, negated, AreBytes}
-use Rattle.checker.proofs.Counting.{trues_most}
-use Rattle.models.proofs.Negating.{trues_negated}
-use Rattle.checker.proofs.Ordering.{area_is, few, cells_within}
 use Rattle.checker.proofs.Acceptance.{accepted_model}
+use Rattle.checker.proofs.Counting.{trues_most}
+use Rattle.checker.proofs.Ordering.{area_is, few, cells_within}
+use Rattle.models.specs.Shown.{cell_colors, negated, AreBytes}
+use Rattle.models.proofs.Negating.{trues_negated}
 
--- `&colors[..k]`, where the palette was written
-pub given : {ws table : List ℕ} {board : Board} → Held ws table board → table_size ≤ length table → {out out' : List ℕ} {k : ℕ} → Wrote (N.palette board.colors) out 0 out' k
-    → Given ws table board (take k out')
-given H l w = record { ready = held_ready _ _ _ H l; stands = H.stands; palette_is = palette_taken _ w ∙ ap N.palette H.stands.colors_is }
-
-module _ {ws table : List ℕ} {board : Board} {colors : List ℕ} (G : Given ws table board colors) where
+-- what was given, of a puzzle z
+module _ {ws table : List ℕ} {board : Board} {colors : List ℕ} (G : Given ws table board colors) {z : Puzzle} (same : puzzle ws ≡ z) where
   pub are_bytes : AreBytes colors
   are_bytes r h = rw G.palette_is (omega (arith, hue_most (puzzle ws) r (omega (arith, (given_shows G).hues_are))))
 
   module _ (β : Assignment) where
-    pub colors_are : cell_colors β board.first (board.width * board.height) colors ≡ shown (puzzle ws) β
+    pub colors_are : cell_colors β board.first (board.width * board.height) colors ≡ shown z β
     unfolding cell_colors shown
-    colors_are = rw (area_is G, G.stands.first_is, G.palette_is)
+    colors_are = rw (← same, area_is G, G.stands.first_is, G.palette_is)
 
-    pub cells_many : board.width * board.height ≡ length (shown (puzzle ws) β)
+    pub cells_many : board.width * board.height ≡ length (shown z β)
     unfolding shown
-    cells_many = area_is G ∙ sym (length_tab _ _)
+    cells_many = rw (← same) (area_is G ∙ sym (length_tab _ _))
 
-  -- where the number of colours is known as k
-  module _ {k : ℕ} (q : k ≡ length colors) where
-    pub few_many : board.width * board.height * k ≤ 126976
-    few_many = rw q (few G).colored
+    pub negated_are : negated β board.first (board.width * board.height * length colors) ≡ blocking z β
+    unfolding negated blocking
+    negated_are = rw (← same, area_is G, G.stands.first_is, G.palette_is)
 
-    pub true_within : (model : List ℕ) → length model ≡ N.variables (puzzle ws)
-        → (0 < board.first) × (board.first + board.width * board.height * k ≤ length model + 1) × (board.first + board.width * board.height * k ≤ largest + 1)
-    true_within model e = rw q ((few G).some, cells_within G model e, omega (arith, few G))
+    module _ {count : ℕ} (c : count ≡ trues β board.first (board.width * board.height * length colors)) where
+      pub count_is : count ≡ length (negated β board.first (board.width * board.height * length colors))
+      count_is = c ∙ trues_negated β board.first (board.width * board.height * length colors)
 
-    module _ (β : Assignment) where
-      pub negated_are : negated β board.first (board.width * board.height * k) ≡ blocking (puzzle ws) β
-      unfolding negated blocking
-      negated_are = rw (q, area_is G, G.stands.first_is, G.palette_is)
+      pub count_most : count ≤ 126976
+      count_most = omega (arith, c, trues_most β board.first (board.width * board.height * length colors), few G)
 
-      module _ {count : ℕ} (e : count ≡ trues β board.first (board.width * board.height * k)) where
-        pub count_is : count ≡ length (negated β board.first (board.width * board.height * k))
-        count_is = e ∙ trues_negated β board.first (board.width * board.height * k)
-
-        pub count_most : count ≤ 126976
-        count_most = omega (arith, e, trues_most β board.first (board.width * board.height * k), few_many)
-
-        pub blocking_many : 1 + count ≡ length (clause_words (blocking (puzzle ws) β))
-        unfolding clause_words
-        blocking_many = omega (arith, count_is, ap length negated_are)
+      pub blocking_many : 1 + count ≡ length (clause_words (blocking z β))
+      unfolding clause_words
+      blocking_many = omega (arith, count_is, ap length negated_are)
 
   -- an accepted model has a byte for each variable
-  pub accepted_size : (model : List ℕ) (a : Answer) {n : ℕ} → a ≡ Accepted n → checked a ≡ model_checks (puzzle ws) model → length model ≡ N.variables (puzzle ws)
-  accepted_size model a {n} d e = (accepted_model (puzzle ws) model (accepted_passed e d)).0.size
+  pub variables_within : (model : List ℕ) (u : Checks) → passed ≡ and_then u (model_checks z model)
+      → (0 < board.first) × (board.first + board.width * board.height * length colors ≤ length model + 1) × (board.first + board.width * board.height * length colors ≤ largest + 1)
+  variables_within model u e =
+      let size : length model ≡ variables (puzzle ws) = rw same (accepted_model z model (then_accepted u _ e)).0.size in
+      ((few G).some, cells_within G model size, omega (arith, few G))

@@ -12,9 +12,9 @@ fn color_of(model: &[u8], v: usize, palette: &[u32]) -> u8
     requires { (0 < v) × (v + length palette.now ≤ length model.now + 1) × AreBytes palette.now }
     ensures { result ≡ color_of (value model.now) v palette.now }
 {
-    for r in 0..palette.len() {
+    for (r, &color) in palette.iter().enumerate() {
         if on(model, v + r) {
-            return palette[r] as u8;
+            return color as u8;
         }
     }
     0

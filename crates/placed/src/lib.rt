@@ -4,3 +4,4 @@
 mod line;
 mod overlap;
 pub mod section;
+pub mod trial;

@@ -1,12 +1,8 @@
 use Rattle.checker.proofs.Counting.{pairing_found, pairing_next, pairing_done}
-use Rattle.refusals.proofs.Offending.{searching_first}
 use Rattle.lists.proofs.Parts.{part_within}
 use Rattle.truth.specs.Truth.{value}
 use native.Mathlib.Omega.{arith}
 use Rattle.checker.proofs.count.check_cells.Goals as goal
-
-pub loop-i-init : goal.loop-i-init
-loop-i-init c = searching_first _ _ _ _
 
 pub overflow_mul-i : goal.overflow_mul-i
 overflow_mul-i c = omega (arith, c.requires, part_within c.args.n c.args.k c.loop-i.i c.loop-i-test.true)

@@ -1,11 +1,7 @@
 use Rattle.checker.specs.Models.{trues}
 use Rattle.truth.specs.Truth.{value}
 use mathlib.Core.Path.{◌≡◌}
-use Prim.Native.Nat.{◌-◌, ◌≤◌}
 use Rattle.checker.proofs.count.count_true.Given as goal
 
 abbrev pub invariant-loop-r : goal.invariant-loop-r
-invariant-loop-r l = (l.r ≤ l.n) × (l.total ≡ trues (value l.model) l.v l.r)
-
-abbrev pub decreases-loop-r : goal.decreases-loop-r
-decreases-loop-r l = l.n - l.r
+invariant-loop-r l = l.total ≡ trues (value l.model) l.v l.r

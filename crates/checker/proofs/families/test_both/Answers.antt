@@ -1,23 +1,26 @@
-use Rattle.placement.specs.Placement.{of_lines}
-use Rattle.checker.proofs.SectionTests.{both_are, lines_within}
+use Rattle.refusals.proofs.Answering.{handed}
 use Rattle.truth.proofs.JoinedTests.{joined_first, joined_stop, joined_second, joined_done}
-use Rattle.puzzles.specs.Checks.{puzzle}
+use Rattle.checker.proofs.SectionTests.{both_are}
 use Rattle.checker.proofs.families.test_both.Goals as goal
 
-pub test_lines-columns-requires-clause-ready : goal.test_lines-columns-requires-clause-ready
-test_lines-columns-requires-clause-ready c = (c.requires.ready.0, c.requires.ready.2, (lines_within (puzzle c.args.words.now) c.requires.ready.1).0)
-
-pub test_lines-columns-requires-clause-countable : goal.test_lines-columns-requires-clause-countable
-test_lines-columns-requires-clause-countable c = joined_first _ (of_lines (puzzle c.args.words.now) c.args.rule 0 c.args.board.width) (of_lines (puzzle c.args.words.now) c.args.rule c.args.board.width c.args.board.height) (rw (both_are (puzzle c.args.words.now) c.args.rule c.requires.ready.1) at c.requires.countable)
-
-pub returns-in_default : goal.returns-in_default
-returns-in_default c = rw (both_are (puzzle c.args.words.now) c.args.rule c.requires.ready.1) (joined_stop _ _ (of_lines (puzzle c.args.words.now) c.args.rule 0 c.args.board.width) (of_lines (puzzle c.args.words.now) c.args.rule c.args.board.width c.args.board.height) _ c.test_lines-columns.ensures c.in_default.is)
-
-pub test_lines-requires-clause-ready : goal.test_lines-requires-clause-ready
-test_lines-requires-clause-ready c = (c.requires.ready.0, c.requires.ready.2, (lines_within (puzzle c.args.words.now) c.requires.ready.1).1)
+-- `split` in these answers: the columns, then the rows
 
 pub test_lines-requires-clause-countable : goal.test_lines-requires-clause-countable
-test_lines-requires-clause-countable c = joined_second _ _ (of_lines (puzzle c.args.words.now) c.args.rule 0 c.args.board.width) (of_lines (puzzle c.args.words.now) c.args.rule c.args.board.width c.args.board.height) _ c.test_lines-columns.ensures c.in-Fine.is (rw (both_are (puzzle c.args.words.now) c.args.rule c.requires.ready.1) at c.requires.countable)
+test_lines-requires-clause-countable c =
+    let split = both_are _ c.args.rule c.args.claim.given.reading.stands in
+    rw c.trial-trial.ensures.puzzle (joined_first _ _ _ (rw split at c.requires))
+
+pub returns-in_err-next : goal.returns-in_err-next
+returns-in_err-next c =
+    let split = both_are _ c.args.rule c.args.claim.given.reading.stands in
+    rw (handed c.from_residual.result c.from_residual.ensures.1, split) (joined_stop _ _ _ _ _ (rw (c.trial-trial.ensures.puzzle, c.trial-trial.ensures.model) at c.in_err-next.ensures))
+
+pub test_lines-requires-2-clause-countable : goal.test_lines-requires-2-clause-countable
+test_lines-requires-2-clause-countable c =
+    let split = both_are _ c.args.rule c.args.claim.given.reading.stands in
+    rw c.trial-trial.ensures.puzzle (joined_second _ _ _ _ (rw (c.trial-trial.ensures.puzzle, c.trial-trial.ensures.model) at c.in_ok-next.ensures) (rw split at c.requires))
 
 pub returns : goal.returns
-returns c = rw (both_are (puzzle c.args.words.now) c.args.rule c.requires.ready.1) (joined_done _ _ (of_lines (puzzle c.args.words.now) c.args.rule 0 c.args.board.width) (of_lines (puzzle c.args.words.now) c.args.rule c.args.board.width c.args.board.height) _ c.test_lines-columns.ensures c.in-Fine.is c.test_lines.result c.test_lines.ensures)
+returns c =
+    let split = both_are _ c.args.rule c.args.claim.given.reading.stands in
+    rw split (joined_done _ _ _ _ (rw (c.trial-trial.ensures.puzzle, c.trial-trial.ensures.model) at c.in_ok-next.ensures) (rw (c.trial-trial.ensures.puzzle, c.trial-trial.ensures.model) at c.test_lines-2.ensures))

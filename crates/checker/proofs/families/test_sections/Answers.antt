@@ -1,24 +1,17 @@
-use mathlib.Core.List.{flatten}
-use Rattle.checker.proofs.SectionTests.{all_are, all_countable}
+use Rattle.refusals.proofs.Answering.{handed}
 use Rattle.truth.proofs.JoinedTests.{joined_first, joined_stop, joined_second, joined_done}
-use Rattle.puzzles.specs.Checks.{puzzle}
-use Rattle.clauses.specs.Groups.{line_sections, cell_sections}
+use Rattle.colored.specs.Held.{puzzle_claimed}
+use Rattle.checker.proofs.SectionTests.{all_are, all_countable}
 use Rattle.checker.proofs.families.test_sections.Goals as goal
 
-pub test_line_sections-lines-requires-clause-ready : goal.test_line_sections-lines-requires-clause-ready
-test_line_sections-lines-requires-clause-ready c = (c.requires.0.ready, c.requires.0.stands, c.requires.1)
+pub test_line_sections-requires : goal.test_line_sections-requires
+test_line_sections-requires c = joined_first _ _ _ (rw (all_are (puzzle_claimed c.args.claim)) at (all_countable (puzzle_claimed c.args.claim) c.args.claim.given.reading.lines.ready.good))
 
-pub test_line_sections-lines-requires-clause-countable : goal.test_line_sections-lines-requires-clause-countable
-test_line_sections-lines-requires-clause-countable c = joined_first 0 (flatten (line_sections (puzzle c.args.words.now))) (flatten (cell_sections (puzzle c.args.words.now))) (rw (all_are (puzzle c.args.words.now)) at (all_countable (puzzle c.args.words.now) c.requires.0.ready.good))
+pub returns-in_err-seventh : goal.returns-in_err-seventh
+returns-in_err-seventh c = rw (handed c.from_residual.result c.from_residual.ensures.1, all_are (puzzle_claimed c.args.claim)) (joined_stop _ _ _ _ _ c.in_err-seventh.ensures)
 
-pub returns-in_default : goal.returns-in_default
-returns-in_default c = rw (all_are (puzzle c.args.words.now)) (joined_stop _ _ (flatten (line_sections (puzzle c.args.words.now))) (flatten (cell_sections (puzzle c.args.words.now))) _ c.test_line_sections-lines.ensures c.in_default.is)
-
-pub test_cell_sections-requires-clause-given : goal.test_cell_sections-requires-clause-given
-test_cell_sections-requires-clause-given c = c.requires
-
-pub test_cell_sections-requires-clause-countable : goal.test_cell_sections-requires-clause-countable
-test_cell_sections-requires-clause-countable c = joined_second _ _ (flatten (line_sections (puzzle c.args.words.now))) (flatten (cell_sections (puzzle c.args.words.now))) _ c.test_line_sections-lines.ensures c.in-Fine.is (rw (all_are (puzzle c.args.words.now)) at (all_countable (puzzle c.args.words.now) c.requires.0.ready.good))
+pub test_cell_sections-requires : goal.test_cell_sections-requires
+test_cell_sections-requires c = joined_second _ _ _ _ c.in_ok-seventh.ensures (rw (all_are (puzzle_claimed c.args.claim)) at (all_countable (puzzle_claimed c.args.claim) c.args.claim.given.reading.lines.ready.good))
 
 pub returns : goal.returns
-returns c = rw (all_are (puzzle c.args.words.now)) (joined_done _ _ (flatten (line_sections (puzzle c.args.words.now))) (flatten (cell_sections (puzzle c.args.words.now))) _ c.test_line_sections-lines.ensures c.in-Fine.is c.test_cell_sections.result c.test_cell_sections.ensures)
+returns c = rw (all_are (puzzle_claimed c.args.claim)) (joined_done _ _ _ _ c.in_ok-seventh.ensures c.test_cell_sections.ensures)

@@ -1,46 +1,46 @@
-use mathlib.Core.Path.{refl}
+use mathlib.Core.Path.{◌≡◌, refl, sym, ◌∙◌}
 use native.Mathlib.Omega.{arith}
+use lib.ListN.{length}
+use Rattle.refusals.proofs.Answering.{handed}
 use Rattle.truth.proofs.Testing.{testing_first}
-use Rattle.cells.proofs.BoardCells.{given_shows, cell_place, cell_variables}
+use Rattle.cells.proofs.BoardCells.{cell_at, given_holds, given_shows, cell_is}
 use Rattle.colored.proofs.EachTests.{cell_room, cell_stop, cell_next, cell_done}
 use Rattle.colored.proofs.ModelVariables.{color_within}
 use Rattle.colored.proofs.section.test_cell.Goals as goal
 
-pub overflow_mul-first : goal.overflow_mul-first
-overflow_mul-first c = omega (arith, cell_place (given_shows c.requires.given.0) _ _ c.requires.x_lt_width.0 c.requires.x_lt_width.1)
-
-pub overflow_add-first : goal.overflow_add-first
-overflow_add-first c = omega (arith, cell_place (given_shows c.requires.given.0) _ _ c.requires.x_lt_width.0 c.requires.x_lt_width.1)
-
-pub overflow_mul-first-2 : goal.overflow_mul-first-2
-overflow_mul-first-2 c = omega (arith, cell_variables (given_shows c.requires.given.0) _ _ c.requires.x_lt_width.0 c.requires.x_lt_width.1)
-
-pub overflow_add-first-2 : goal.overflow_add-first-2
-overflow_add-first-2 c = omega (arith, cell_variables (given_shows c.requires.given.0) _ _ c.requires.x_lt_width.0 c.requires.x_lt_width.1)
+-- `first` in these answers: the first variable, by the board
 
 pub loop-r-init : goal.loop-r-init
-loop-r-init c = (refl, testing_first _ _ _ _ _ refl)
+loop-r-init c = testing_first _ _ _ _ _ refl
 
-pub overflow_add-ask : goal.overflow_add-ask
-overflow_add-ask c = omega (arith, cell_variables (given_shows c.requires.given.0) _ _ c.requires.x_lt_width.0 c.requires.x_lt_width.1)
+pub test_color-requires-clause-width_value : goal.test_color-requires-clause-width_value
+test_color-requires-clause-width_value c =
+    let G = given_holds c.args.claim.given in
+    let first : c.cell_first-first.result ≡ cell_at c.args.claim.given.reading.board (length c.args.claim.given.palette.now) c.args.x c.args.y = c.cell_first-first.ensures.value ∙ sym (cell_is (given_shows G) _ _) in
+    rw (c.trial-trial.ensures.puzzle, c.trial-trial.ensures.model, first) (
+      G.stands.width_is,
+      c.requires.x_lt_width.0,
+      omega (arith, c.requires.x_lt_width.1, G.stands.height_is),
+      color_within c.args.claim.model.now _ c.args.claim.known (given_shows G) _ _ c.requires.x_lt_width.0 c.requires.x_lt_width.1 _ (omega arith),
+    )
 
-pub test_color-both-requires-clause-ready : goal.test_color-both-requires-clause-ready
-test_color-both-requires-clause-ready c = c.requires.given.0.ready
+pub test_color-requires-clause-countable : goal.test_color-requires-clause-countable
+test_color-requires-clause-countable c =
+    let G = given_holds c.args.claim.given in
+    let first : c.cell_first-first.result ≡ cell_at c.args.claim.given.reading.board (length c.args.claim.given.palette.now) c.args.x c.args.y = c.cell_first-first.ensures.value ∙ sym (cell_is (given_shows G) _ _) in
+    rw (c.trial-trial.ensures.puzzle, first) (cell_room G c.args.rule _ _ c.loop-r.invariant (omega arith) c.requires.countable)
 
-pub test_color-both-requires-clause-width_value : goal.test_color-both-requires-clause-width_value
-test_color-both-requires-clause-width_value c = (c.requires.given.0.stands.width_is, c.requires.x_lt_width.0, omega (arith, c.requires.x_lt_width.1, c.requires.given.0.stands.height_is))
-
-pub test_color-both-requires-clause-model_len : goal.test_color-both-requires-clause-model_len
-test_color-both-requires-clause-model_len c = (c.requires.given.1, color_within c.args.model.now _ c.requires.given.1 (given_shows c.requires.given.0) c.args.x c.args.y c.requires.x_lt_width.0 c.requires.x_lt_width.1 _ (omega arith))
-
-pub test_color-both-requires-clause-countable : goal.test_color-both-requires-clause-countable
-test_color-both-requires-clause-countable c = cell_room c.requires.given.0 c.args.rule c.args.x c.args.y c.loop-r.invariant.1 (omega arith) c.requires.countable
-
-pub returns-in_default : goal.returns-in_default
-returns-in_default c = cell_stop c.requires.given.0 c.args.rule c.args.x c.args.y c.loop-r.invariant.1 (omega arith) _ c.test_color-both.ensures c.in_default.is
+pub returns-in_err-to : goal.returns-in_err-to
+returns-in_err-to c =
+    let G = given_holds c.args.claim.given in
+    let first : c.cell_first-first.result ≡ cell_at c.args.claim.given.reading.board (length c.args.claim.given.palette.now) c.args.x c.args.y = c.cell_first-first.ensures.value ∙ sym (cell_is (given_shows G) _ _) in
+    rw (handed c.from_residual.result c.from_residual.ensures.1) (cell_stop G c.args.rule _ _ c.loop-r.invariant (omega arith) _ (rw (c.trial-trial.ensures.puzzle, c.trial-trial.ensures.model, first) at c.in_err-to.ensures))
 
 pub loop-r-preserved : goal.loop-r-preserved
-loop-r-preserved c = (c.loop-r.invariant.0, cell_next c.requires.given.0 c.args.rule c.args.x c.args.y c.loop-r.invariant.1 (omega arith) _ c.test_color-both.ensures c.in-Fine.is)
+loop-r-preserved c =
+    let G = given_holds c.args.claim.given in
+    let first : c.cell_first-first.result ≡ cell_at c.args.claim.given.reading.board (length c.args.claim.given.palette.now) c.args.x c.args.y = c.cell_first-first.ensures.value ∙ sym (cell_is (given_shows G) _ _) in
+    cell_next G c.args.rule _ _ c.loop-r.invariant (omega arith) (rw (c.trial-trial.ensures.puzzle, c.trial-trial.ensures.model, first) at c.in_ok-to.ensures)
 
 pub returns : goal.returns
-returns c = cell_done c.requires.given.0 c.args.rule c.args.x c.args.y c.loop-r.invariant.1 (omega arith)
+returns c = cell_done (given_holds c.args.claim.given) c.args.rule c.args.x c.args.y c.loop-r.invariant (omega arith)

@@ -2,17 +2,8 @@ use native.Mathlib.Omega.{arith}
 use Rattle.colored.proofs.Sides.{two_sides, two_clauses}
 use Rattle.colored.proofs.section.test_color.Goals as goal
 
-pub test_support-requires-clause-ready : goal.test_support-requires-clause-ready
-test_support-requires-clause-ready c = c.requires.ready
-
-pub test_support-requires-clause-x_bound : goal.test_support-requires-clause-x_bound
-test_support-requires-clause-x_bound c = (omega arith, omega arith, c.requires.model_len.0, c.requires.model_len.1, two_clauses _ c.args.ask _ _ _ _ c.in-Color.is c.requires.countable)
-
-pub test_spaces-requires-clause-ready : goal.test_spaces-requires-clause-ready
-test_spaces-requires-clause-ready c = c.requires.ready
-
-pub test_spaces-requires-clause-x_bound : goal.test_spaces-requires-clause-x_bound
-test_spaces-requires-clause-x_bound c = (omega arith, omega arith, c.requires.model_len.0, c.requires.model_len.1)
+pub test_support-requires : goal.test_support-requires
+test_support-requires c = (omega arith, omega arith, c.requires.width_value.3, two_clauses _ c.args.ask _ _ _ _ c.in-Color.is c.requires.countable)
 
 pub test_spaces-requires-clause-countable : goal.test_spaces-requires-clause-countable
 test_spaces-requires-clause-countable c = rw (two_sides _ c.args.ask _ _ _ c.in-Space.is) at c.requires.countable

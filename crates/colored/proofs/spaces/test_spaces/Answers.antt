@@ -1,26 +1,16 @@
-use mathlib.Core.Path.{refl}
-use lib.Dec.{eqb}
-use Rattle.truth.proofs.Testing.{testing_first, testing_room, testing_stop, testing_next, testing_done}
-use Rattle.colored.proofs.Sides.{picked_below}
+use Rattle.refusals.proofs.Answering.{handed}
+use Rattle.truth.proofs.JoinedTests.{joined_first, joined_stop, joined_second, joined_done}
+use Rattle.colored.proofs.Sides.{sides_are}
 use Rattle.colored.proofs.spaces.test_spaces.Goals as goal
 
-pub loop-side-init : goal.loop-side-init
-loop-side-init c = testing_first _ 2 _ _ _ refl
+pub test_line-requires-clause-countable : goal.test_line-requires-clause-countable
+test_line-requires-clause-countable c = rw c.line.ensures.line (joined_first _ _ _ (rw sides_are at c.requires.countable))
 
-pub test_line-line-requires-clause-ready : goal.test_line-line-requires-clause-ready
-test_line-line-requires-clause-ready c = c.requires.ready
+pub returns-in_err-next : goal.returns-in_err-next
+returns-in_err-next c = rw (handed c.from_residual.result c.from_residual.ensures.1, sides_are) (joined_stop _ _ _ _ _ (rw (c.line.ensures.line, c.line.ensures.model) at c.in_err-next.ensures))
 
-pub test_line-line-requires-clause-l_bound : goal.test_line-line-requires-clause-l_bound
-test_line-line-requires-clause-l_bound c = (rw c.pick-l.ensures (picked_below (eqb c.loop-side.side 0) c.requires.x_bound.0 c.requires.x_bound.1), c.requires.x_bound.2, c.requires.x_bound.3)
-
-pub test_line-line-requires-clause-countable : goal.test_line-line-requires-clause-countable
-test_line-line-requires-clause-countable c = rw (c.pick-l.ensures, c.pick-t.ensures) (testing_room c.loop-side.invariant c.loop-side-test.true c.requires.countable)
-
-pub returns-in_default : goal.returns-in_default
-returns-in_default c = testing_stop c.loop-side.invariant c.loop-side-test.true c.test_line-line.result (rw (c.pick-l.ensures, c.pick-t.ensures) at c.test_line-line.ensures) c.in_default.is
-
-pub loop-side-preserved : goal.loop-side-preserved
-loop-side-preserved c = testing_next c.loop-side.invariant c.loop-side-test.true c.test_line-line.result (rw (c.pick-l.ensures, c.pick-t.ensures) at c.test_line-line.ensures) c.in-Fine.is
+pub test_line-requires-2-clause-countable : goal.test_line-requires-2-clause-countable
+test_line-requires-2-clause-countable c = rw c.line-2.ensures.line (joined_second _ _ _ _ (rw (c.line.ensures.line, c.line.ensures.model) at c.in_ok-next.ensures) (rw sides_are at c.requires.countable))
 
 pub returns : goal.returns
-returns c = testing_done c.loop-side.invariant c.loop-side-test.false
+returns c = rw sides_are (joined_done _ _ _ _ (rw (c.line.ensures.line, c.line.ensures.model) at c.in_ok-next.ensures) (rw (c.line-2.ensures.line, c.line-2.ensures.model) at c.test_line-2.ensures))

@@ -1,29 +1,17 @@
 use Rattle.placement.specs.Placement.{ruled}
 use Rattle.placed.proofs.line.test_rule.Goals as goal
 
-pub test_positions-requires-clause-sound : goal.test_positions-requires-clause-sound
+pub test_positions-requires : goal.test_positions-requires
 unfolding ruled
-test_positions-requires-clause-sound c = c.requires.sound
+test_positions-requires c = rw c.in-Positions.is at c.requires
 
-pub test_positions-requires-clause-countable : goal.test_positions-requires-clause-countable
+pub test_once-requires : goal.test_once-requires
 unfolding ruled
-test_positions-requires-clause-countable c = rw c.in-Positions.is at c.requires.countable
+test_once-requires c = rw c.in-Once.is at c.requires
 
-pub test_once-requires-clause-sound : goal.test_once-requires-clause-sound
+pub test_overlaps-requires : goal.test_overlaps-requires
 unfolding ruled
-test_once-requires-clause-sound c = c.requires.sound
-
-pub test_once-requires-clause-countable : goal.test_once-requires-clause-countable
-unfolding ruled
-test_once-requires-clause-countable c = rw c.in-Once.is at c.requires.countable
-
-pub test_overlaps-requires-clause-sound : goal.test_overlaps-requires-clause-sound
-unfolding ruled
-test_overlaps-requires-clause-sound c = c.requires.sound
-
-pub test_overlaps-requires-clause-countable : goal.test_overlaps-requires-clause-countable
-unfolding ruled
-test_overlaps-requires-clause-countable c = rw c.in-Overlap.is at c.requires.countable
+test_overlaps-requires c = rw c.in-Overlap.is at c.requires
 
 pub returns-in-Positions : goal.returns-in-Positions
 unfolding ruled

@@ -1,66 +1,37 @@
 use mathlib.Core.Path.{◌≡◌}
-use Prim.Native.Nat.{◌+◌, ◌*◌}
 use native.Mathlib.Omega.{arith}
-use lib.ListN.{length}
+use Rattle.refusals.proofs.Answering.{handed}
 use Rattle.truth.proofs.Testing.{testing_from, testing_room, testing_stop, testing_next, testing_done}
-use Rattle.numbering.specs.Tables.{line_of}
+use Rattle.numbering.proofs.SoundLines.{sound_few}
+use Rattle.numbering.specs.Held.{line_in}
 use Rattle.placement.specs.Placement.{conflicts}
 use Rattle.placement.specs.PairRows.{rows_from}
-use Rattle.placement.proofs.BlockLoops.{pair_is}
-use Rattle.placed.proofs.BlockTests.{Has, has_block, later_rest}
+use Rattle.placement.proofs.RowLaw.{conflicts_rows}
+use Rattle.placed.proofs.BlockTests.{later_rest}
 use Rattle.placed.proofs.overlap.test_later.Goals as goal
 
 -- `pair` in these answers: the pair's rows, by the distance that was found
 
 pub overflow_step-b : goal.overflow_step-b
-overflow_step-b c = omega (arith, c.requires.a_in_bounds)
+overflow_step-b c = omega (arith, sound_few c.args.trial.line.sound)
 
 pub loop-b-init : goal.loop-b-init
-loop-b-init c = (omega arith, testing_from _ _ _ _ _ _ (later_rest _ _ c.requires.sound.0 (c.first_of-first.ensures _) (c.positions_of-p.ensures _) _))
+loop-b-init c = (omega arith, testing_from _ _ _ _ _ _ (later_rest _ _))
 
-pub distance_of-d-requires : goal.distance_of-d-requires
-distance_of-d-requires c = (c.requires.sound.0, c.requires.sound.2, c.loop-b.invariant.0, c.loop-b-test.true)
+pub test_rows-requires-clause-countable : goal.test_rows-requires-clause-countable
+test_rows-requires-clause-countable c =
+    let pair : conflicts (line_in c.args.trial.line) c.args.a c.loop-b.b ≡ rows_from c.block_first-va.result c.block_first.result c.distance_of-d.result c.positions-p.result = rw (c.block_first-va.ensures.value, c.block_first.ensures.value, c.positions-p.ensures) (conflicts_rows _ _ _ c.distance_of-d.ensures.meets) in
+    rw pair at (testing_room c.loop-b.invariant.1 (omega arith) c.requires.countable)
 
-pub overflow_mul-a : goal.overflow_mul-a
-overflow_mul-a c =
-    let earlier = has_block _ _ c.requires.sound.0 (c.first_of-first.ensures _) (c.positions_of-p.ensures _) _ _ c.requires.sound.1 c.requires.a_in_bounds in
-    omega (arith, earlier)
-
-pub overflow_add-first : goal.overflow_add-first
-overflow_add-first c =
-    let earlier = has_block _ _ c.requires.sound.0 (c.first_of-first.ensures _) (c.positions_of-p.ensures _) _ _ c.requires.sound.1 c.requires.a_in_bounds in
-    omega (arith, earlier)
-
-pub overflow_mul-b : goal.overflow_mul-b
-overflow_mul-b c =
-    let later = has_block _ _ c.requires.sound.0 (c.first_of-first.ensures _) (c.positions_of-p.ensures _) _ _ c.requires.sound.1 c.loop-b-test.true in
-    omega (arith, later)
-
-pub overflow_add-first-in-loop-b : goal.overflow_add-first-in-loop-b
-overflow_add-first-in-loop-b c =
-    let later = has_block _ _ c.requires.sound.0 (c.first_of-first.ensures _) (c.positions_of-p.ensures _) _ _ c.requires.sound.1 c.loop-b-test.true in
-    omega (arith, later)
-
-pub test_rows-pair-requires-clause-va_nonzero : goal.test_rows-pair-requires-clause-va_nonzero
-test_rows-pair-requires-clause-va_nonzero c =
-    let earlier = has_block _ _ c.requires.sound.0 (c.first_of-first.ensures _) (c.positions_of-p.ensures _) _ _ c.requires.sound.1 c.requires.a_in_bounds in
-    let later = has_block _ _ c.requires.sound.0 (c.first_of-first.ensures _) (c.positions_of-p.ensures _) _ _ c.requires.sound.1 c.loop-b-test.true in
-    (omega (arith, earlier.least), earlier.bytes, omega (arith, later.least), later.bytes)
-
-pub test_rows-pair-requires-clause-countable : goal.test_rows-pair-requires-clause-countable
-test_rows-pair-requires-clause-countable c =
-    let pair = pair_is _ _ c.requires.sound.0 (c.first_of-first.ensures _) (c.positions_of-p.ensures _) _ _ c.distance_of-d.ensures.meets in
-    rw pair at (testing_room c.loop-b.invariant.1 c.loop-b-test.true c.requires.countable)
-
-pub returns-in_default : goal.returns-in_default
-returns-in_default c =
-    let pair = pair_is _ _ c.requires.sound.0 (c.first_of-first.ensures _) (c.positions_of-p.ensures _) _ _ c.distance_of-d.ensures.meets in
-    testing_stop c.loop-b.invariant.1 c.loop-b-test.true _ (rw pair c.test_rows-pair.ensures) c.in_default.is
+pub returns-in_err-to : goal.returns-in_err-to
+returns-in_err-to c =
+    let pair : conflicts (line_in c.args.trial.line) c.args.a c.loop-b.b ≡ rows_from c.block_first-va.result c.block_first.result c.distance_of-d.result c.positions-p.result = rw (c.block_first-va.ensures.value, c.block_first.ensures.value, c.positions-p.ensures) (conflicts_rows _ _ _ c.distance_of-d.ensures.meets) in
+    rw (handed c.from_residual.result c.from_residual.ensures.1) (testing_stop c.loop-b.invariant.1 (omega arith) _ (rw pair c.in_err-to.ensures))
 
 pub loop-b-preserved : goal.loop-b-preserved
 loop-b-preserved c =
-    let pair = pair_is _ _ c.requires.sound.0 (c.first_of-first.ensures _) (c.positions_of-p.ensures _) _ _ c.distance_of-d.ensures.meets in
-    (omega (arith, c.loop-b.invariant.0), testing_next c.loop-b.invariant.1 c.loop-b-test.true _ (rw pair c.test_rows-pair.ensures) c.in-Fine.is)
+    let pair : conflicts (line_in c.args.trial.line) c.args.a c.loop-b.b ≡ rows_from c.block_first-va.result c.block_first.result c.distance_of-d.result c.positions-p.result = rw (c.block_first-va.ensures.value, c.block_first.ensures.value, c.positions-p.ensures) (conflicts_rows _ _ _ c.distance_of-d.ensures.meets) in
+    (omega (arith, c.loop-b.invariant.0), testing_next c.loop-b.invariant.1 (omega arith) (rw pair c.in_ok-to.ensures))
 
 pub returns : goal.returns
-returns c = testing_done c.loop-b.invariant.1 c.loop-b-test.false
+returns c = testing_done c.loop-b.invariant.1 (omega arith)

@@ -1,24 +1,20 @@
+use native.Mathlib.Omega.{arith}
+use Rattle.refusals.proofs.Answering.{handed}
 use Rattle.truth.proofs.Testing.{testing_first, testing_room, testing_stop, testing_next, testing_done}
-use Rattle.placement.proofs.BlockLoops.{overlaps_are}
+use Rattle.placement.proofs.RowLaw.{non_overlap_later}
 use Rattle.placed.proofs.overlap.test_overlaps.Goals as goal
 
 pub loop-a-init : goal.loop-a-init
-loop-a-init c = testing_first _ _ _ _ _ (overlaps_are _ _ c.requires.sound.0)
+loop-a-init c = testing_first _ _ _ _ _ (non_overlap_later _)
 
-pub test_later-block-requires-clause-sound : goal.test_later-block-requires-clause-sound
-test_later-block-requires-clause-sound c = c.requires.sound
+pub test_later-requires-clause-countable : goal.test_later-requires-clause-countable
+test_later-requires-clause-countable c = testing_room c.loop-a.invariant (omega arith) c.requires
 
-pub test_later-block-requires-clause-a_in_bounds : goal.test_later-block-requires-clause-a_in_bounds
-test_later-block-requires-clause-a_in_bounds c = c.loop-a-test.true
-
-pub test_later-block-requires-clause-countable : goal.test_later-block-requires-clause-countable
-test_later-block-requires-clause-countable c = testing_room c.loop-a.invariant c.loop-a-test.true c.requires.countable
-
-pub returns-in_default : goal.returns-in_default
-returns-in_default c = testing_stop c.loop-a.invariant c.loop-a-test.true _ c.test_later-block.ensures c.in_default.is
+pub returns-in_err-to : goal.returns-in_err-to
+returns-in_err-to c = rw (handed c.from_residual.result c.from_residual.ensures.1) (testing_stop c.loop-a.invariant (omega arith) _ c.in_err-to.ensures)
 
 pub loop-a-preserved : goal.loop-a-preserved
-loop-a-preserved c = testing_next c.loop-a.invariant c.loop-a-test.true _ c.test_later-block.ensures c.in-Fine.is
+loop-a-preserved c = testing_next c.loop-a.invariant (omega arith) c.in_ok-to.ensures
 
 pub returns : goal.returns
-returns c = testing_done c.loop-a.invariant c.loop-a-test.false
+returns c = testing_done c.loop-a.invariant (omega arith)

@@ -1,5 +1,5 @@
 use mathlib.Core.Path.{◌≡◌}
-use Prim.Native.Nat.{◌-◌}
+use lib.ListN.{length}
 use Rattle.lists.specs.Each.{each}
 use Rattle.truth.specs.Truth.{value}
 use Rattle.truth.proofs.Testing.{Testing}
@@ -7,7 +7,7 @@ use Rattle.points.specs.Points.{column_once}
 use Rattle.pointed.proofs.once.test_points.Given as goal
 
 abbrev pub invariant-loop-x : goal.invariant-loop-x
-invariant-loop-x l = (l.x-end ≡ l.board.width) × Testing (value l.model) l.at (each l.board.width (column_once l.board l.k)) l.board.width (column_once l.board l.k) l.to l.x
-
-abbrev pub decreases-loop-x : goal.decreases-loop-x
-decreases-loop-x l = l.board.width - l.x
+invariant-loop-x l =
+    let board = l.fn.claim.given.reading.board in
+    let k = length l.fn.claim.given.palette.now in
+    (l.x-end ≡ board.width) × Testing (value l.fn.claim.model.now) l.at (each board.width (column_once board k)) board.width (column_once board k) l.to l.x

@@ -1,5 +1,4 @@
-use mathlib.Core.Path.{◌≡◌}
-use Prim.Native.Nat.{◌+◌, ◌-◌, ◌*◌}
+use Prim.Native.Nat.{◌+◌, ◌*◌}
 use lib.ListN.{length, get_or}
 use Rattle.truth.specs.Truth.{value}
 use Rattle.truth.proofs.Testing.{Testing}
@@ -7,7 +6,4 @@ use Rattle.points.specs.Points.{of_mask, of_masks}
 use Rattle.pointed.proofs.precomputed.test_masks.Given as goal
 
 abbrev pub invariant-loop-i : goal.invariant-loop-i
-invariant-loop-i l = (l.i-end ≡ length l.masks) × Testing (value l.model) l.at (of_masks l.palette l.masks l.v) (length l.masks) (λ j. of_mask l.palette (get_or l.masks j 0) (l.v + j * length l.palette)) l.to l.i
-
-abbrev pub decreases-loop-i : goal.decreases-loop-i
-decreases-loop-i l = length l.masks - l.i
+invariant-loop-i l = Testing (value l.model) l.at (of_masks l.palette l.masks l.v) (length l.masks) (λ j. of_mask l.palette (get_or l.masks j 0) (l.v + j * length l.palette)) l.to l.i
