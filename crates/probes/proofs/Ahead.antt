@@ -1,7 +1,7 @@
 -- The walk over the parts of accepted probe words: what is ahead of it, and what a turn finds there.
-use mathlib.Core.Path.{◌≡◌, refl, sym, ap, ◌∙◌}
+use mathlib.Core.Path.{◌≡◌, refl, ap, ◌∙◌}
 use mathlib.Core.List.{List, [], ◌∷◌, ◌++◌, map, flat_map}
-use Prim.Native.Nat.{ℕ, zero, suc, ◌+◌, ◌-◌, ◌*◌, ◌/◌, ◌≤◌, ◌<◌}
+use Prim.Native.Nat.{ℕ, suc, ◌+◌, ◌-◌, ◌*◌, ◌/◌, ◌≤◌, ◌<◌}
 use native.Mathlib.Omega.{arith}
 use lib.ListN.{length, take, drop, get_or, length-append}
 use lib.Seq.{take_at, drop_at}
@@ -19,7 +19,7 @@ claims_length (q ∷ qs) = omega (arith, claims_length qs)
 pub claims_many : (qs : List Claim) → length (claims_words qs) / 3 ≡ length qs
 claims_many qs = omega (arith, claims_length qs)
 
-part_is : (p : Probe) (more : List ℕ) → part_length (probe_words p ++ more) ≡ length (probe_words p)
+pub part_is : (p : Probe) (more : List ℕ) → part_length (probe_words p ++ more) ≡ length (probe_words p)
 unfolding probe_words
 part_is p more = omega (arith, claims_length p.impacts)
 
