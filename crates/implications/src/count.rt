@@ -9,7 +9,7 @@ ghost use Rattle.implications.specs.Sizes.{impact_count, impacts_count, ExtentIs
 use crate::claims::claims;
 use bits::mask::has;
 use boards::board::Board;
-use lists::wide;
+use probes::parts::Parts;
 
 // Clauses, and their words.
 #[derive(Clone, Copy)]
@@ -71,13 +71,10 @@ pub fn count_probes(board: Board, k: usize, probe: &[u32]) -> Extent
 {
     let mut clauses = 0;
     let mut words = 0;
-    let mut i = 1;
-    for l in 0..wide(probe[0]) {
-        let next = i + 4 + 3 * wide(probe[i + 3]);
-        let size = count_probe(board, k, &probe[i..next]);
+    for part in Parts::of(probe) {
+        let size = count_probe(board, k, part);
         clauses += size.clauses;
         words += size.words;
-        i = next;
     }
     Extent { clauses, words }
 }

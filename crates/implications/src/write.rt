@@ -16,6 +16,7 @@ use implied::impact::put_impact;
 use implied::premise::put_premise;
 use lists::wide;
 use literals::count_word;
+use probes::parts::Parts;
 
 // The board of some accepted puzzle, and colours as many as that has.
 #[derive(Clone, Copy)]
@@ -79,11 +80,8 @@ pub fn write_probes(
     let painted = Painted { shown, palette };
     out[0] = count_word(count);
     let mut to = 1;
-    let mut i = 1;
-    for l in 0..wide(probe[0]) {
-        let next = i + 4 + 3 * wide(probe[i + 3]);
-        to = generate_implications(&probe[i..next], painted, out, to);
-        i = next;
+    for part in Parts::of(probe) {
+        to = generate_implications(part, painted, out, to);
     }
     to
 }

@@ -2,3 +2,4 @@ pub mod ProbeReaders
 pub mod ProbeWalk
 pub mod AcceptedProbes
 pub mod Stopping
+pub mod Ahead

@@ -1,4 +1,5 @@
 pub mod Probes
 pub mod Words
+pub mod Parts
 pub mod Stops
 pub mod Onward

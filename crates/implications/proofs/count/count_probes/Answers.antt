@@ -1,48 +1,41 @@
-use Rattle.probes.proofs.AcceptedProbes.{accepted_probes}
-use Rattle.implications.proofs.Counting.{counting_first, counting_next, counting_done}
+use Prim.Native.Nat.{◌+◌}
 use native.Mathlib.Omega.{arith}
-use Rattle.implications.proofs.ProbePlaces.{first_is, count_within, next_within, slice_known}
+use Rattle.probes.specs.Parts.{parts_in}
+use Rattle.probes.proofs.AcceptedProbes.{Accepted, accepted_probes}
+use Rattle.implications.proofs.ProbePlaces.{formed, few_first, few_long, few_known, probes_parts}
+use Rattle.implications.proofs.Counting.{Counting, counting_first, counting_next, counted_most, counting_done}
 use Rattle.implications.proofs.count.count_probes.Goals as goal
+use Rattle.implications.proofs.count.count_probes.Goals.{Start, After-count_probe-size}
 
-pub bounds-probe-0 : goal.bounds-probe-0
-bounds-probe-0 c =
-    let A = accepted_probes c.args.board.width c.args.board.height c.args.board.colors c.args.probe.now c.requires.passed_value in
-    (first_is A).0
+taken : (c : Start) → Accepted c.args.board.width c.args.board.height c.args.board.colors c.args.probe.now
+taken c = accepted_probes c.args.board.width c.args.board.height c.args.board.colors c.args.probe.now c.requires.passed_value
 
-pub loop-l-init : goal.loop-l-init
-loop-l-init c =
-    let A = accepted_probes c.args.board.width c.args.board.height c.args.board.colors c.args.probe.now c.requires.passed_value in
-    (c.wide-l-end.ensures, counting_first _ _ (omega (arith, first_is A)))
+pub of-part-items-requires : goal.of-part-items-requires
+of-part-items-requires c = formed (taken (goal.at.of-part-items-requires c).Start)
 
-pub bounds-probe-i : goal.bounds-probe-i
-bounds-probe-i c =
-    let A = accepted_probes c.args.board.width c.args.board.height c.args.board.colors c.args.probe.now c.requires.passed_value in
-    count_within A c.loop-l.invariant.1.place_is (omega arith)
+pub loop-part-init : goal.loop-part-init
+loop-part-init c = rw (c.into_iter-part-iterator.ensures.into_iter_gives, c.of-part-items.ensures) (counting_first (few_first (taken (goal.at.loop-part-init c).Start)))
 
-pub slice_bounds-count_probe-end : goal.slice_bounds-count_probe-end
-slice_bounds-count_probe-end c =
-    let A = accepted_probes c.args.board.width c.args.board.height c.args.board.colors c.args.probe.now c.requires.passed_value in
-    next_within A c.loop-l.invariant.1.place_is (omega arith) c.wide.ensures
+pub count_probe-size-requires-clause-k_value : goal.count_probe-size-requires-clause-k_value
+count_probe-size-requires-clause-k_value c = let l = few_long c.loop-part.invariant.few c.in-Some.ensures.steps in (c.requires.k_value, l.0, l.1)
 
 pub count_probe-size-requires-clause-part_value : goal.count_probe-size-requires-clause-part_value
-count_probe-size-requires-clause-part_value c =
-    let A = accepted_probes c.args.board.width c.args.board.height c.args.board.colors c.args.probe.now c.requires.passed_value in
-    slice_known A c.loop-l.invariant.1.place_is (omega arith) c.wide.ensures
+count_probe-size-requires-clause-part_value c = few_known c.loop-part.invariant.few c.in-Some.ensures.steps
+
+next : (c : After-count_probe-size) → Counting c.args.board (parts_in c.args.probe.now) (c.loop-part.clauses + c.count_probe-size.result.clauses) (c.loop-part.words + c.count_probe-size.result.words) c.next.new.self
+next c = counting_next c.loop-part.invariant c.in-Some.ensures.steps c.count_probe-size.ensures
 
 pub overflow_add-clauses : goal.overflow_add-clauses
-overflow_add-clauses c =
-    let A = accepted_probes c.args.board.width c.args.board.height c.args.board.colors c.args.probe.now c.requires.passed_value in
-    omega (arith, (counting_next c.loop-l.invariant.1 (omega arith) A (omega arith) c.wide.ensures c.count_probe-size.ensures).clauses_most, next_within A c.loop-l.invariant.1.place_is (omega arith) c.wide.ensures, A.few)
+overflow_add-clauses c = let a = goal.at.overflow_add-clauses c in omega (arith, counted_most (next a.After-count_probe-size) (omega arith) (few_first (taken a.Start)))
 
 pub overflow_add-words : goal.overflow_add-words
-overflow_add-words c =
-    let A = accepted_probes c.args.board.width c.args.board.height c.args.board.colors c.args.probe.now c.requires.passed_value in
-    omega (arith, (counting_next c.loop-l.invariant.1 (omega arith) A (omega arith) c.wide.ensures c.count_probe-size.ensures).words_most, next_within A c.loop-l.invariant.1.place_is (omega arith) c.wide.ensures, A.few)
+overflow_add-words c = let a = goal.at.overflow_add-words c in omega (arith, counted_most (next a.After-count_probe-size) (omega arith) (few_first (taken a.Start)))
 
-pub loop-l-preserved : goal.loop-l-preserved
-loop-l-preserved c =
-    let A = accepted_probes c.args.board.width c.args.board.height c.args.board.colors c.args.probe.now c.requires.passed_value in
-    (c.loop-l.invariant.0, (counting_next c.loop-l.invariant.1 (omega arith) A (omega arith) c.wide.ensures c.count_probe-size.ensures))
+pub loop-part-preserved : goal.loop-part-preserved
+loop-part-preserved c = next (goal.at.loop-part-preserved c).After-count_probe-size
 
 pub returns-clause-extent_is : goal.returns-clause-extent_is
-returns-clause-extent_is c = counting_done c.loop-l.invariant.1 (omega arith)
+returns-clause-extent_is c = rw (probes_parts (taken (goal.at.returns-clause-extent_is c).Start)) (counting_done c.loop-part.invariant c.in-None.ensures.steps.0)
+
+pub returns-clause-clauses_bound : goal.returns-clause-clauses_bound
+returns-clause-clauses_bound c = counted_most c.loop-part.invariant (omega arith) (few_first (taken (goal.at.returns-clause-clauses_bound c).Start))
