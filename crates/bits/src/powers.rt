@@ -16,6 +16,7 @@ pub fn two_powers(mask: u32, out: &mut [u32]) -> Result<usize, Refusal>
     }
     let mut rest = mask;
     let mut at = 0;
+    // no index: a turn for each bit that is left
     while rest != 0 {
         // a mask by the number minus one drops the lowest set bit
         let next = rest & (rest - 1);

@@ -11,7 +11,7 @@ use bits::mask::has;
 use boards::board::Board;
 use probes::parts::Parts;
 
-// Clauses, and their words.
+// Clauses, and their words. One type with that of dimacs would not say the unit.
 #[derive(Clone, Copy)]
 pub struct Extent {
     pub clauses: usize,

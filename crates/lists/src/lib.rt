@@ -4,6 +4,8 @@
 ghost use Rattle.std.specs.Prelude.{◌≡◌, [], ◌∷◌, ◌+◌, ◌≤◌, length};
 ghost use Rattle.lists.specs.Wrote.{Wrote};
 
+// The smallest writer. A writer takes a buffer and the place of the next word, and answers the place behind what it wrote: a struct around
+// both proves too, but each clause would name four fields, and a second one that the buffer is the same.
 pub fn put_pair(a: u32, b: u32, out: &mut [u32], at: usize) -> usize
     requires { at + 2 ≤ length out.old }
     ensures { Wrote (a ∷ b ∷ []) out.old at out.new result }

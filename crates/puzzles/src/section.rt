@@ -1,4 +1,5 @@
-// The readers of a puzzle's sections.
+// The readers of a puzzle's sections. Those that begin with a count differ from one another, and from `Counted` of formulas, in its test and
+// in their numbers, and have no more in common than `read_times`.
 ghost use Rattle.std.specs.Prelude.{◌≡◌, ◌+◌, ◌^◌, ◌<◌, ◌≤◌, eqb, IfOk, List, length, ℕ};
 ghost use Rattle.refusals.specs.Told.{told};
 ghost use Rattle.refusals.specs.Walk.{outcome};

@@ -38,6 +38,7 @@ pub fn starts<W: Write>(writer: &mut W, case: Case<'_>) -> io::Result<()> {
     })
 }
 
+// As `starts`: one function for both would hand its closure's `&mut`s on, which the check cannot take yet.
 pub fn color_ranges<W: Write>(writer: &mut W, case: Case<'_>) -> io::Result<()> {
     lend(writer, case, |out: &mut [u32], place| match case.args {
         [length, clue @ ..] => haafgrim_color_ranges(*length as usize, clue, out, place),

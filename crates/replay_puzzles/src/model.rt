@@ -15,6 +15,7 @@ pub fn check_model<W: Write>(writer: &mut W, case: Case<'_>) -> io::Result<()> {
     })
 }
 
+// As `check_model`, under another type: see `color_ranges` of replay_lines.
 pub fn blocking<W: Write>(writer: &mut W, case: Case<'_>) -> io::Result<()> {
     let Some((puzzle, rest)) = parted(case.args) else {
         return Ok(());

@@ -17,6 +17,7 @@ pub fn read_full<R: Read>(reader: &mut R, buffer: &mut [u8]) -> io::Result<usize
         n < length buffer.new → IsAtEnd (R.remaining reader.new)) }
 {
     let mut done = 0;
+    // by what each read gave: `read_exact` would refuse an early end
     while done < buffer.len() {
         let n = reader.read(&mut buffer[done..])?;
         if n == 0 {
