@@ -2,8 +2,7 @@
 use mathlib.Core.Path.{◌≡◌, sym, ap, ◌∙◌}
 use mathlib.Core.Bool.{Bool, true, false, not, ◌||◌, or-true, or-false, false≢true}
 use mathlib.Core.List.{List, [], ◌∷◌}
-use Prim.Native.Nat.{ℕ, ◌+◌, ◌-◌, ◌^◌, ◌<◌}
-use native.Mathlib.Omega.{arith}
+use Prim.Native.Nat.{ℕ, ◌+◌, ◌-◌, ◌<◌}
 use native.Mathlib.Nat.{add-zero}
 use mir.Val.{bool_byte}
 use borrow.Author.Tests.{ne_eqb}
@@ -55,10 +54,6 @@ module _ (β : Assignment) (v u p : ℕ) (r : Run) (t : ℕ) where
     early e = testing_next T h (rw e)
 
     module _ (m : covers (moved r i) t ≡ true) where
-      room : Countable at (ruled Space v (covering_block u p r t)) → to + 1 < 2 ^ 63
-      unfolding ruled
-      room q = rw m at (testing_room T h q)
-
       passed : clause_true β (negative (u + i) ∷ positive v ∷ []) ≡ true → BlockTesting at (to + 1) (i + 1)
       unfolding ruled
       passed e = testing_next T h (rw m (one_true β to _ e))
@@ -80,18 +75,12 @@ module _ (β : Assignment) (v u p : ℕ) (r : Run) (t : ℕ) where
 
     -- it is counted where it covers the cell
     module _ {counts : Bool} (o : counts ≡ covers (moved r i) t) {n : ℕ} (e : n ≡ bool_byte counts) where
-      counted : (P : ℕ → Type 0) → (covers (moved r i) t ≡ true → P 1) → (covers (moved r i) t ≡ false → P 0) → P n
-      counted P f g = rw e (go counts o)
-        where
-          go : (b : Bool) → b ≡ covers (moved r i) t → P (bool_byte b)
-          go true q = f (sym q)
-          go false q = g (sym q)
-
-      pub block_room : Countable at (ruled Space v (covering_block u p r t)) → to + n < 2 ^ 63
-      block_room q = counted (λ n. to + n < 2 ^ 63) (λ m. room m q) (λ m. omega (arith, testing_room T h q))
-
       next : (covers (moved r i) t ≡ true → clause_true β (negative (u + i) ∷ positive v ∷ []) ≡ true) → BlockTesting at (to + n) (i + 1)
-      next f = counted (λ n. BlockTesting at (to + n) (i + 1)) (λ m. passed m (f m)) (λ m. rw add-zero (early m))
+      next f = rw e (go counts o)
+        where
+          go : (b : Bool) → b ≡ covers (moved r i) t → BlockTesting at (to + bool_byte b) (i + 1)
+          go true q = passed (sym q) (f (sym q))
+          go false q = rw add-zero (early (sym q))
 
       pub block_held : β v ≡ true → BlockTesting at (to + n) (i + 1)
       block_held f = next (λ m. clause_held f)

@@ -4,7 +4,6 @@ use mathlib.Core.Bool.{true, false}
 use mathlib.Core.List.{List, [], ◌∷◌}
 use Prim.Native.Nat.{ℕ, suc, ◌+◌, ◌*◌, ◌≤◌, ◌<◌}
 use native.Mathlib.Omega.{arith}
-use native.Mathlib.Nat.{add-zero}
 use lib.ListN.{length, get_or, set, drop, drop_of_length-le}
 use Rattle.lists.specs.Each.{each, tab}
 use Rattle.lists.specs.Wrote.{Wrote}
@@ -21,9 +20,6 @@ abbrev pub Looking : Assignment → ℕ → List ℕ → ℕ → Type 0
 Looking β v palette r = color_of β v palette ≡ color_of β (v + r) (drop r palette)
 
 module _ (β : Assignment) (v : ℕ) (palette : List ℕ) where
-  pub looking_first : Looking β v palette 0
-  looking_first = rw add-zero
-
   module _ {r : ℕ} (L : Looking β v palette r) where
     module _ (h : r < length palette) where
       pub looking_on : β (v + r) ≡ true → get_or palette r 0 ≡ color_of β v palette

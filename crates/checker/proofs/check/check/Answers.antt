@@ -8,9 +8,6 @@ use Rattle.checker.proofs.check.check.Goals as goal
 pub overflow_sub-variables : goal.overflow_sub-variables
 overflow_sub-variables c = omega (arith, few (given_holds c.args.given))
 
-pub overflow_mul-cells : goal.overflow_mul-cells
-overflow_mul-cells c = omega (arith, few (given_holds c.args.given))
-
 pub overflow_mul-variables : goal.overflow_mul-variables
 overflow_mul-variables c = omega (arith, few (given_holds c.args.given))
 

@@ -1,8 +1,7 @@
 use mathlib.Core.Path.{sym, ◌∙◌}
-use native.Mathlib.Omega.{arith}
 use Rattle.truth.proofs.Testing.{testing_done}
 use Rattle.lines.specs.Runs.{run}
-use Rattle.colored.proofs.SpaceTests.{block_first, block_late, block_room, block_stop, block_held, block_off, block_miss}
+use Rattle.colored.proofs.SpaceTests.{block_first, block_late, block_stop, block_held, block_off, block_miss}
 use Rattle.colored.proofs.spaces.test_block.Goals.{else-not-holds-via-then-not-holds+then-on+else-covered, else-not-holds-via-then-not-holds+else-on, else-not-holds-via-else-not-holds}
 use Rattle.colored.proofs.spaces.test_block.Goals as goal
 
@@ -14,9 +13,6 @@ returns-then-behind c = block_late _ _ _ _ (run c.args.block) _ c.loop-i.invaria
 
 pub returns-then-covered : goal.returns-then-covered
 returns-then-covered c = block_stop _ _ _ _ (run c.args.block) _ c.loop-i.invariant c.loop-i-test.true (sym c.on-holds.ensures ∙ c.if-not-holds.true) (c.requires.by_index.0 _ c.loop-i-test.true).0 (sym c.on.ensures ∙ c.if-on.true) (sym c.covers-covered.ensures ∙ c.if-covered.true)
-
-pub overflow_add-to : goal.overflow_add-to
-overflow_add-to c = omega (arith, block_room _ _ _ _ (run c.args.block) _ c.loop-i.invariant c.loop-i-test.true c.covers-covered.ensures c.from-to.ensures c.requires.countable)
 
 pub loop-i-preserved : goal.loop-i-preserved
 loop-i-preserved c = elim c.else-not-holds.branch [

@@ -1,4 +1,3 @@
-use Prim.Native.Nat.{◌-◌}
 use Rattle.truth.specs.Truth.{value}
 use Rattle.lines.specs.Runs.{run}
 use Rattle.colored.proofs.SpaceTests.{BlockTesting}
@@ -6,6 +5,3 @@ use Rattle.colored.proofs.spaces.test_block.Given as goal
 
 abbrev pub invariant-loop-i : goal.invariant-loop-i
 invariant-loop-i l = BlockTesting (value l.model) l.v l.u l.p (run l.block) l.t l.at l.to l.i
-
-abbrev pub decreases-loop-i : goal.decreases-loop-i
-decreases-loop-i l = l.p - l.i

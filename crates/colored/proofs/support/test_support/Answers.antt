@@ -1,8 +1,6 @@
 use mathlib.Core.Path.{sym, ◌∙◌}
-use Prim.Native.Nat.{◌≤◌}
 use native.Mathlib.Omega.{arith}
 use lib.Dec.{eqb}
-use lib.ListN.{length}
 use Rattle.colored.proofs.Sides.{side_at, picked_below}
 use Rattle.colored.proofs.ModelVariables.{covering_within}
 use Rattle.colored.proofs.CoveredTests.{seeking_first, seeking_next, sides_first, side_off, side_on, side_false, sides_done}
@@ -15,11 +13,6 @@ clauses-init c = sides_first _ _ _ _ _ _ _ _
 
 pub clauses-preserved-then-not-on : goal.clauses-preserved-then-not-on
 clauses-preserved-then-not-on c = side_off _ _ _ _ _ _ _ _ c.clauses.invariant c.clauses-test.true c.requires.2.0 (sym c.on.ensures ∙ c.if-not-on.true)
-
-pub find_covering-n-requires : goal.find_covering-n-requires
-find_covering-n-requires c =
-    let room : 64 ≤ length c.clauses.found = omega arith in
-    rw (side_at c.args.x c.args.row c.args.y _ (0, 0) c.clauses-test.true) (picked_below (eqb c.clauses.side 0) c.requires.0 c.requires.1, room)
 
 pub loop-u-init : goal.loop-u-init
 loop-u-init c = seeking_first _ _

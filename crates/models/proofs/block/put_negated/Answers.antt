@@ -1,37 +1,20 @@
 use Rattle.models.proofs.Negating.{negating_first, negating_skip, negating_room, negating_next, negating_done}
 use Rattle.literals.proofs.Words.{word_is}
-use Rattle.lists.proofs.Emitting.{emit_kept}
 use Rattle.truth.specs.Truth.{value}
 use mathlib.Core.Path.{sym, ◌∙◌}
-use native.Mathlib.Omega.{arith}
 use Rattle.models.proofs.block.put_negated.Goals as goal
 
 pub loop-k-init : goal.loop-k-init
 loop-k-init c = negating_first _ _ _ _ _ c.requires.n_in_bounds
 
-pub on-requires : goal.on-requires
-on-requires c = (omega (arith, c.requires.v_nonzero), omega (arith, c.requires.v_nonzero, c.loop-k-test.true))
-
 pub loop-k-preserved-then-not-on : goal.loop-k-preserved-then-not-on
 loop-k-preserved-then-not-on c = negating_skip (value c.args.model.now) c.args.v c.args.n c.loop-k.invariant c.loop-k-test.true (sym c.on.ensures ∙ c.if-not-on.true)
-
-pub no-requires : goal.no-requires
-no-requires c = record { least = omega (arith, c.requires.v_nonzero); most = omega (arith, c.requires.v_nonzero, c.loop-k-test.true) }
-
-pub offset_bounds-out-to : goal.offset_bounds-out-to
-offset_bounds-out-to c = omega (arith, negating_room (value c.args.model.now) c.args.v c.args.n c.loop-k.invariant c.loop-k-test.true (sym c.on.ensures ∙ c.if-not-on.false), emit_kept c.loop-k.invariant)
 
 pub bounds-out-to : goal.bounds-out-to
 bounds-out-to c = negating_room (value c.args.model.now) c.args.v c.args.n c.loop-k.invariant c.loop-k-test.true (sym c.on.ensures ∙ c.if-not-on.false)
 
-pub overflow_add-to : goal.overflow_add-to
-overflow_add-to c = omega (arith, negating_room (value c.args.model.now) c.args.v c.args.n c.loop-k.invariant c.loop-k-test.true (sym c.on.ensures ∙ c.if-not-on.false), emit_kept c.loop-k.invariant)
-
 pub loop-k-preserved : goal.loop-k-preserved
 loop-k-preserved c = negating_next (value c.args.model.now) c.args.v c.args.n c.loop-k.invariant c.loop-k-test.true (sym c.on.ensures ∙ c.if-not-on.false) (word_is c.no.result c.no.type_inv ∙ c.no.ensures)
-
-pub shape_of-out : goal.shape_of-out
-shape_of-out c = emit_kept c.loop-k.invariant
 
 pub returns : goal.returns
 returns c = negating_done _ _ _ c.loop-k.invariant c.loop-k-test.false

@@ -1,10 +1,6 @@
 use Rattle.models.proofs.Negating.{Negating}
 use Rattle.truth.specs.Truth.{value}
-use Prim.Native.Nat.{◌-◌}
 use Rattle.models.proofs.block.put_negated.Given as goal
 
 abbrev pub invariant-loop-k : goal.invariant-loop-k
 invariant-loop-k l = Negating (value l.model) l.v l.n l.initial.out l.at l.out l.to l.k
-
-abbrev pub decreases-loop-k : goal.decreases-loop-k
-decreases-loop-k l = l.n - l.k

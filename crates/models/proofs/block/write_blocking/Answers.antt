@@ -7,17 +7,8 @@ use mathlib.Core.Path.{◌∙◌, ap}
 use native.Mathlib.Omega.{arith}
 use Rattle.models.proofs.block.write_blocking.Goals as goal
 
-pub put_negated-to-requires-clause-v_nonzero : goal.put_negated-to-requires-clause-v_nonzero
-put_negated-to-requires-clause-v_nonzero c = c.requires.v_nonzero
-
-pub put_negated-to-requires-clause-n_in_bounds : goal.put_negated-to-requires-clause-n_in_bounds
-put_negated-to-requires-clause-n_in_bounds c = omega (arith, c.requires.count_value)
-
 pub count_word-requires : goal.count_word-requires
 count_word-requires c = omega (arith, c.requires.v_nonzero, c.requires.count_value.0, trues_negated (value c.args.model.now) c.args.v c.args.n, trues_most (value c.args.model.now) c.args.v c.args.n)
-
-pub bounds-out-0 : goal.bounds-out-0
-bounds-out-0 c = omega (arith, c.put_negated-to.auto.out, c.requires.count_value)
 
 pub returns : goal.returns
 returns c = blocking_wrote _ _ _ _ (omega (arith, c.requires.count_value)) (word_is c.count_word.result c.count_word.type_inv ∙ c.count_word.ensures ∙ ap pos c.requires.count_value.0) c.put_negated-to.ensures

@@ -1,15 +1,10 @@
-use native.Mathlib.Omega.{arith}
 use Rattle.refusals.proofs.Answering.{handed}
 use Rattle.truth.proofs.Testing.{testing_first, testing_room, testing_stop, testing_next, testing_done}
-use Rattle.tables.proofs.Laying.{lines_most}
 use Rattle.placement.proofs.SectionLoops.{lines_are}
 use Rattle.placed.proofs.section.test_lines.Goals as goal
 
 pub loop-k-init : goal.loop-k-init
 loop-k-init c = testing_first _ _ _ _ _ (lines_are _ _ _ _)
-
-pub overflow_add-from : goal.overflow_add-from
-overflow_add-from c = omega (arith, lines_most _ c.args.trial.lines.ready.sectioned 0 (omega arith))
 
 pub test_rule-requires : goal.test_rule-requires
 test_rule-requires c = rw c.line.ensures.line (testing_room c.loop-k.invariant c.loop-k-test.true c.requires.countable)

@@ -1,6 +1,4 @@
 use native.Mathlib.Omega.{arith}
-use lib.ListN.{length}
-use Rattle.lists.proofs.Parts.{part_within}
 use Rattle.refusals.proofs.Answering.{handed}
 use Rattle.truth.proofs.Testing.{testing_first, testing_room, testing_stop, testing_next, testing_done}
 use Rattle.colored.proofs.EachTests.{masks_each}
@@ -8,15 +6,6 @@ use Rattle.pointed.proofs.precomputed.test_masks.Goals as goal
 
 pub loop-i-init : goal.loop-i-init
 loop-i-init c = testing_first _ _ _ _ _ (masks_each c.args.palette.now c.args.masks.now _)
-
-pub overflow_mul-i : goal.overflow_mul-i
-overflow_mul-i c = omega (arith, part_within (length c.args.masks.now) (length c.args.palette.now) c.loop-i.i (omega arith))
-
-pub overflow_add-v : goal.overflow_add-v
-overflow_add-v c = omega (arith, part_within (length c.args.masks.now) (length c.args.palette.now) c.loop-i.i (omega arith))
-
-pub test_cell-requires-clause-v_nonzero : goal.test_cell-requires-clause-v_nonzero
-test_cell-requires-clause-v_nonzero c = (omega arith, omega (arith, part_within (length c.args.masks.now) (length c.args.palette.now) c.loop-i.i (omega arith)))
 
 pub test_cell-requires-clause-countable : goal.test_cell-requires-clause-countable
 test_cell-requires-clause-countable c = testing_room c.loop-i.invariant (omega arith) c.requires.countable
