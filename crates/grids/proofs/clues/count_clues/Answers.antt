@@ -2,23 +2,11 @@ use mathlib.Core.Path.{ap, ◌∙◌}
 use native.Mathlib.Omega.{arith}
 use lib.ListN.{length}
 use Rattle.lines.specs.Calls.{line_words}
-use Rattle.grids.proofs.ClueSections.{summing_first, summing_next, summing_done, line_end, line_row, line_short}
+use Rattle.grids.proofs.ClueSections.{summing_first, summing_next, summing_done, line_row}
 use Rattle.grids.proofs.clues.count_clues.Goals as goal
 
 pub loop-i-init : goal.loop-i-init
 loop-i-init c = summing_first _ _ _
-
-pub overflow_mul-at : goal.overflow_mul-at
-overflow_mul-at c = omega (arith, line_end _ _ _ c.requires _ c.loop-i-test.true)
-
-pub overflow_add-at : goal.overflow_add-at
-overflow_add-at c = omega (arith, line_end _ _ _ c.requires _ c.loop-i-test.true)
-
-pub slice_bounds-count_words-end : goal.slice_bounds-count_words-end
-slice_bounds-count_words-end c = line_end _ _ _ c.requires _ c.loop-i-test.true
-
-pub count_words-requires : goal.count_words-requires
-count_words-requires c = line_short _ _ _ c.requires _ c.loop-i-test.true
 
 pub overflow_add-count : goal.overflow_add-count
 overflow_add-count c = omega (

@@ -1,6 +1,5 @@
-use Rattle.tables.proofs.Laying.{line_fine, lay_kept, lay_fits, lay_wrote, lay_positions, line_vars, room, lay_refused}
+use Rattle.tables.proofs.Laying.{lay_kept, lay_fits, lay_wrote, lay_positions, room, lay_refused}
 use Rattle.puzzles.specs.Firsts.{positions_at}
-use Rattle.lines.proofs.Checks.{size_within}
 use Rattle.refusals.specs.Verdict.{accepted}
 use mathlib.Core.Path.{ap, ◌≡◌, ap₂, ◌∙◌}
 use Rattle.puzzles.specs.Checks.{puzzle}
@@ -41,60 +40,10 @@ put_pair-to-requires c =
     let room_is = room _ c.requires.sectioned _ c.requires.l_bound.0 {at = c.args.at} {first = c.args.first} c.requires.standing in
     omega (arith, room_is, c.requires.l_bound)
 
-pub overflow_add-at : goal.overflow_add-at
-overflow_add-at c =
-    let room_is = room _ c.requires.sectioned _ c.requires.l_bound.0 {at = c.args.at} {first = c.args.first} c.requires.standing in
-    omega (arith, room_is, c.wide-n.ensures)
-
-pub overflow_add-at-2 : goal.overflow_add-at-2
-overflow_add-at-2 c =
-    let room_is = room _ c.requires.sectioned _ c.requires.l_bound.0 {at = c.args.at} {first = c.args.first} c.requires.standing in
-    omega (arith, room_is, c.wide-n.ensures)
-
-pub overflow_mul-n : goal.overflow_mul-n
-overflow_mul-n c =
-    let room_is = room _ c.requires.sectioned _ c.requires.l_bound.0 {at = c.args.at} {first = c.args.first} c.requires.standing in
-    omega (arith, room_is, c.wide-n.ensures)
-
-pub overflow_add-at-3 : goal.overflow_add-at-3
-overflow_add-at-3 c =
-    let room_is = room _ c.requires.sectioned _ c.requires.l_bound.0 {at = c.args.at} {first = c.args.first} c.requires.standing in
-    omega (arith, room_is, c.wide-n.ensures)
-
-pub offset_bounds-words-at-2 : goal.offset_bounds-words-at-2
-offset_bounds-words-at-2 c =
-    let room_is = room _ c.requires.sectioned _ c.requires.l_bound.0 {at = c.args.at} {first = c.args.first} c.requires.standing in
-    omega (arith, room_is, c.wide-n.ensures)
-
-pub slice_bounds-starts-count : goal.slice_bounds-starts-count
-slice_bounds-starts-count c =
-    let room_is = room _ c.requires.sectioned _ c.requires.l_bound.0 {at = c.args.at} {first = c.args.first} c.requires.standing in
-    omega (arith, room_is, c.wide-n.ensures)
-
-pub slice_bounds-starts-start : goal.slice_bounds-starts-start
-slice_bounds-starts-start c =
-    let room_is = room _ c.requires.sectioned _ c.requires.l_bound.0 {at = c.args.at} {first = c.args.first} c.requires.standing in
-    omega (arith, room_is, c.wide-n.ensures)
-
 pub slice_bounds-starts-end : goal.slice_bounds-starts-end
 slice_bounds-starts-end c =
     let room_is = room _ c.requires.sectioned _ c.requires.l_bound.0 {at = c.args.at} {first = c.args.first} c.requires.standing in
     omega (arith, room_is, c.wide-n.ensures)
-
-pub offset_bounds-table-to : goal.offset_bounds-table-to
-offset_bounds-table-to c =
-    let room_is = room _ c.requires.sectioned _ c.requires.l_bound.0 {at = c.args.at} {first = c.args.first} c.requires.standing in
-    omega (arith, room_is, c.requires.l_bound, c.put_pair-to.ensures, c.put_pair-to.auto)
-
-pub slice_bounds-starts-count-2 : goal.slice_bounds-starts-count-2
-slice_bounds-starts-count-2 c =
-    let room_is = room _ c.requires.sectioned _ c.requires.l_bound.0 {at = c.args.at} {first = c.args.first} c.requires.standing in
-    omega (arith, room_is, c.requires.l_bound, c.put_pair-to.ensures, c.put_pair-to.auto)
-
-pub slice_bounds-starts-start-2 : goal.slice_bounds-starts-start-2
-slice_bounds-starts-start-2 c =
-    let room_is = room _ c.requires.sectioned _ c.requires.l_bound.0 {at = c.args.at} {first = c.args.first} c.requires.standing in
-    omega (arith, room_is, c.requires.l_bound, c.put_pair-to.ensures, c.put_pair-to.auto)
 
 pub returns-in_default-clause-result_value : goal.returns-in_default-clause-result_value
 returns-in_default-clause-result_value c =
@@ -106,21 +55,10 @@ returns-in_default-clause-by_index c =
     let short = lay_refused _ c.requires.sectioned _ c.requires.l_bound.0 {at = c.args.at} {first = c.args.first} c.requires.standing c.requires.l_bound.1 _ c.requires.l_bound.2 c.put_pair-to.ensures c.wide-n.ensures _ c.starts-answer.ensures _ c.in_default.is in
     λ f. absurd (omega (arith, short, f))
 
-pub offset_bounds-table-to-2 : goal.offset_bounds-table-to-2
-offset_bounds-table-to-2 c =
-    let room_is = room _ c.requires.sectioned _ c.requires.l_bound.0 {at = c.args.at} {first = c.args.first} c.requires.standing in
-    omega (arith, room_is, c.put_pair-to.ensures)
-
 pub bounds-table-to : goal.bounds-table-to
 bounds-table-to c =
     let room_is = room _ c.requires.sectioned _ c.requires.l_bound.0 {at = c.args.at} {first = c.args.first} c.requires.standing in
     omega (arith, room_is, c.put_pair-to.ensures, c.requires.l_bound, lay_kept _ c.requires.sectioned _ c.requires.l_bound.0 {at = c.args.at} {first = c.args.first} c.requires.standing c.requires.l_bound.1 _ c.requires.l_bound.2 c.put_pair-to.ensures c.wide-n.ensures _ c.starts-answer.ensures c.in-Ok.is)
-
-pub overflow_mul-result : goal.overflow_mul-result
-overflow_mul-result c =
-    let room_is = room _ c.requires.sectioned _ c.requires.l_bound.0 {at = c.args.at} {first = c.args.first} c.requires.standing in
-    let vars : (c.wide-n.result * c.wide.result) ≡ length (clue_at (puzzle c.args.words.now) c.args.l) * positions_at (puzzle c.args.words.now) c.args.l = ap₂ ◌*◌ (c.wide-n.ensures ∙ room_is.count_is) (c.wide.ensures ∙ lay_positions _ c.requires.sectioned _ c.requires.l_bound.0 {at = c.args.at} {first = c.args.first} c.requires.standing c.requires.l_bound.1 _ c.requires.l_bound.2 c.put_pair-to.ensures c.wide-n.ensures _ c.starts-answer.ensures c.in-Ok.is) in
-    omega (arith, vars, line_vars (puzzle c.args.words.now) c.args.l room_is.few (size_within _ (line_fine _ c.requires.sectioned _ c.requires.l_bound.0).sized))
 
 pub returns-clause-result_value : goal.returns-clause-result_value
 returns-clause-result_value c =

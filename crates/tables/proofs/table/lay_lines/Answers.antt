@@ -1,6 +1,6 @@
 use Rattle.refusals.specs.Told.{told}
 use Rattle.refusals.proofs.Answering.{handed}
-use Rattle.tables.proofs.Laying.{room, line_length_is, laying_first, laying_short, laying_vars, laying_next, laying_done, laying_laid}
+use Rattle.tables.proofs.Laying.{room, line_length_is, laying_first, laying_short, laying_vars, laying_next, laying_done}
 use Rattle.puzzles.proofs.Accepting.{walked_sections, size_some}
 use Rattle.lines.proofs.Checks.{size_within}
 use Rattle.puzzles.specs.Checks.{puzzle}
@@ -16,20 +16,11 @@ overflow_add-l-end c = omega (arith, c.requires.width_value, size_within (P.widt
 pub loop-l-init : goal.loop-l-init
 loop-l-init c = (omega (arith, c.requires.width_value), (refl, laying_first _ _ (size_some _ (walked_sections 0 c.args.words.now c.requires.sectioned).fine.columns.0)))
 
-pub lay_line-requires-clause-sectioned : goal.lay_line-requires-clause-sectioned
-lay_line-requires-clause-sectioned c = c.requires.sectioned
-
-pub lay_line-requires-clause-standing : goal.lay_line-requires-clause-standing
-lay_line-requires-clause-standing c = c.loop-l.invariant.1.1.stands
-
 pub lay_line-requires-clause-l_bound : goal.lay_line-requires-clause-l_bound
 lay_line-requires-clause-l_bound c =
     let in_line : c.loop-l.l < P.lines (puzzle c.args.words.now) = omega (arith, c.loop-l.invariant.0, c.loop-l-test.true) in
     let cells_are = line_length_is (puzzle c.args.words.now) _ c.requires.width_value.0 c.requires.width_value.1 c.line_length-cells.ensures in
     (in_line, cells_are, omega (arith, c.loop-l.invariant.1.0, c.requires.width_value))
-
-pub shape_of-table-in_err-variables : goal.shape_of-table-in_err-variables
-shape_of-table-in_err-variables c = c.lay_line.auto.table ∙ c.loop-l.invariant.1.0
 
 pub returns-in_err-variables : goal.returns-in_err-variables
 returns-in_err-variables c =
@@ -62,12 +53,6 @@ overflow_add-at c =
     let room_is = room _ c.requires.sectioned _ in_line c.loop-l.invariant.1.1.stands in
     omega (arith, room_is, c.wide-n.ensures)
 
-pub overflow_mul-n : goal.overflow_mul-n
-overflow_mul-n c =
-    let in_line : c.loop-l.l < P.lines (puzzle c.args.words.now) = omega (arith, c.loop-l.invariant.0, c.loop-l-test.true) in
-    let room_is = room _ c.requires.sectioned _ in_line c.loop-l.invariant.1.1.stands in
-    omega (arith, room_is, c.wide-n.ensures)
-
 pub overflow_add-at-in-loop-l : goal.overflow_add-at-in-loop-l
 overflow_add-at-in-loop-l c =
     let in_line : c.loop-l.l < P.lines (puzzle c.args.words.now) = omega (arith, c.loop-l.invariant.0, c.loop-l-test.true) in
@@ -80,23 +65,11 @@ next_begin-at-requires c =
     let room_is = room _ c.requires.sectioned _ in_line c.loop-l.invariant.1.1.stands in
     (omega (arith, room_is, c.wide-n.ensures), omega (arith, room_is))
 
-pub overflow_step-l : goal.overflow_step-l
-overflow_step-l c =
-    let in_line : c.loop-l.l < P.lines (puzzle c.args.words.now) = omega (arith, c.loop-l.invariant.0, c.loop-l-test.true) in
-    let room_is = room _ c.requires.sectioned _ in_line c.loop-l.invariant.1.1.stands in
-    omega (arith, room_is)
-
 pub loop-l-preserved : goal.loop-l-preserved
 loop-l-preserved c =
     let in_line : c.loop-l.l < P.lines (puzzle c.args.words.now) = omega (arith, c.loop-l.invariant.0, c.loop-l-test.true) in
     let cells_are = line_length_is (puzzle c.args.words.now) _ c.requires.width_value.0 c.requires.width_value.1 c.line_length-cells.ensures in
     (c.loop-l.invariant.0, (c.lay_line.auto.table ∙ c.loop-l.invariant.1.0, laying_next _ c.requires.sectioned c.loop-l.invariant.1.1 in_line (omega (arith, c.loop-l.invariant.1.0, c.requires.width_value)) cells_are c.in_ok-variables.ensures.result_value c.in_ok-variables.ensures.by_index c.wide-n.ensures c.requires.width_value.0 c.next_begin-at.ensures))
 
-pub shape_of-table : goal.shape_of-table
-shape_of-table c = c.loop-l.invariant.1.0
-
 pub returns-clause-result_value : goal.returns-clause-result_value
 returns-clause-result_value c = laying_done _ c.loop-l.invariant.1.1 (omega (arith, c.loop-l.invariant.0, c.loop-l-test.false))
-
-pub returns-clause-laid : goal.returns-clause-laid
-returns-clause-laid c = λ p. laying_laid _ c.loop-l.invariant.1.1 (omega (arith, c.loop-l.invariant.0, c.loop-l-test.false))
