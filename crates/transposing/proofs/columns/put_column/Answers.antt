@@ -1,7 +1,5 @@
-use native.Mathlib.Omega.{arith}
 use Rattle.lists.proofs.Emitting.{one_first, one_next, one_done}
 use Rattle.grids.specs.Grid.{column}
-use Rattle.grids.proofs.Cells.{place_in, place_most}
 use Rattle.transposing.proofs.columns.put_column.Goals as goal
 
 pub loop-y-init : goal.loop-y-init

@@ -1,4 +1,4 @@
-use Rattle.lists.proofs.Emitting.{emit_kept, emit_next}
+use Rattle.lists.proofs.Emitting.{emit_next}
 use Rattle.grids.proofs.Cells.{columns_first, columns_room, columns_done}
 use Rattle.transposing.proofs.columns.put_columns.Goals as goal
 

@@ -1,5 +1,5 @@
 use native.Mathlib.Omega.{arith}
-use Rattle.refusals.proofs.Answering.{handed, answers_refused, answers_short, answers_wrote}
+use Rattle.refusals.proofs.Answering.{answers_short, answers_wrote}
 use Rattle.grids.proofs.Cells.{transposed_size}
 use Rattle.grids.proofs.Checking.{size_ok}
 use Rattle.transposing.proofs.transpose.transpose.Goals as goal
