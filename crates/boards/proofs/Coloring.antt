@@ -12,7 +12,7 @@ use Rattle.lists.proofs.Dropping.{drop_one}
 use Rattle.bits.specs.Bits.{bit, with_bit, solved}
 use Rattle.lines.specs.Arrangement.{block_at}
 use Rattle.lines.specs.Clue.{words, blocks}
-use Rattle.lines.proofs.ClueWords.{blocks_words}
+use Rattle.lines.proofs.ClueWords.{NextBlock, blocks_words}
 use Rattle.puzzles.specs.Puzzle.{Puzzle, width, height, clue_at}
 use Rattle.puzzles.specs.Colors.{with_colors, with_lines, color_set, known, off_solved}
 use Rattle.puzzles.proofs.Lines.{clue_column, clue_row}
@@ -23,9 +23,9 @@ pub record Gathering (mask : ℕ) (clue : List ℕ) (all b : ℕ) : Type 0 where
   pub same : with_colors mask (blocks clue) ≡ with_colors all (drop b (blocks clue))
 
 module _ {mask all b : ℕ} {clue : List ℕ} (G : Gathering mask clue all b) where
-  pub gathering_next : b < length (blocks clue) → {color more : ℕ} → color ≡ (block_at (blocks clue) b).color → more ≡ with_bit all color → Gathering mask clue more (b + 1)
+  pub gathering_next : {size color more : ℕ} → NextBlock (blocks clue) b size color → more ≡ with_bit all color → Gathering mask clue more (b + 1)
   unfolding with_colors
-  gathering_next h k e = record { same = G.same ∙ rw (drop_one (record { size = 0; color = 0 }) (blocks clue) b h, e, k) }
+  gathering_next h e = record { same = G.same ∙ rw (h, e) }
 
   pub gathering_done : drop b (blocks clue) ≡ [] → all ≡ with_colors mask (blocks clue)
   unfolding with_colors
@@ -35,14 +35,14 @@ pub record Knowing (K : ℕ) (clue : List ℕ) (b : ℕ) : Type 0 where
   pub same : known K (blocks clue) ≡ known K (drop b (blocks clue))
 
 module _ {K b : ℕ} {clue : List ℕ} (N : Knowing K clue b) where
-  module _ (h : b < length (blocks clue)) {color : ℕ} (k : color ≡ (block_at (blocks clue) b).color) where
+  module _ {size color : ℕ} (h : NextBlock (blocks clue) b size color) where
     pub knowing_not : bit K color ≡ false → false ≡ known K (blocks clue)
     unfolding known
-    knowing_not e = sym (N.same ∙ rw (drop_one (record { size = 0; color = 0 }) (blocks clue) b h, ← k, e))
+    knowing_not e = sym (N.same ∙ rw (h, e))
 
     pub knowing_next : bit K color ≡ true → Knowing K clue (b + 1)
     unfolding known
-    knowing_next e = record { same = N.same ∙ rw (drop_one (record { size = 0; color = 0 }) (blocks clue) b h, ← k, e) }
+    knowing_next e = record { same = N.same ∙ rw (h, e) }
 
   pub knowing_done : drop b (blocks clue) ≡ [] → true ≡ known K (blocks clue)
   unfolding known

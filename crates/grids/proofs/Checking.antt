@@ -37,6 +37,9 @@ module _ (w h : ℕ) (grid : List ℕ) where
       unfolding size_checks
       size_accepted e = rw (a, b, eq-eqb _ _ e)
 
+-- what the check looks for at the size
+pub ruleset sizing = (width_refused, height_refused, count_refused, size_accepted)
+
 module _ {w h : ℕ} {grid : List ℕ} where
   pub size_ok : passed ≡ size_checks w h grid → Sized w h grid
   unfolding size_checks

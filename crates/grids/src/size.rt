@@ -7,6 +7,7 @@ use lines::limits::off_size;
 use refusals::Refusal;
 
 // The product is taken of two numbers that are at most 64.
+#[tactic(auto, using(crate::proofs::Checking::sizing))]
 pub fn check_size(width: usize, height: usize, grid: &[u8]) -> Result<(), Refusal>
     ensures { checked result ≡ size_checks width height grid.now }
 {

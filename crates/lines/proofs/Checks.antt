@@ -54,6 +54,9 @@ module _ (n : ℕ) (clue : List ℕ) where
           unfolding clue_checks
           clue_accepted l = rw (s, ne_eqb _ _ e, le-ltb _ _ h, ← b, ← m, le-ltb _ _ l)
 
+-- what the check looks for at a clue
+pub ruleset clue_checking = (size_refused, odd_refused, many_refused, block_refused, short_refused, clue_accepted)
+
 pub size_within : (n : ℕ) → off_size n ≡ false → n ≤ 64
 size_within n e = ltb-false 64 n (neither (eqb n 0) (ltb 64 n) e).1
 

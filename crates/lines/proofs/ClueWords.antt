@@ -46,25 +46,26 @@ block_size (x ∷ []) b h = absurd (omega arith)
 block_size (x ∷ y ∷ l) zero h = refl
 block_size (x ∷ y ∷ l) (suc b) h = let e : 2 * suc b ≡ suc (suc (2 * b)) = omega arith in block_size l b (omega arith) ∙ rw e
 
+-- the next of the blocks from b on
+abbrev pub NextBlock : List Block → ℕ → ℕ → ℕ → Type 0
+NextBlock bs b size color = drop b bs ≡ record { size = size; color = color } ∷ drop (b + 1) bs
+
 -- pair b is block b
 module _ (bs : List Block) {ps : List (List ℕ)} (e : ps ≡ pairs bs) {b : ℕ} (h : b < length ps) where
-  pub pair_within : b < length bs
-  pair_within = omega (arith, h, ap length e, length-map bs (λ b. b.size ∷ b.color ∷ []))
+  within : b < length bs
+  within = omega (arith, h, ap length e, length-map bs (λ b. b.size ∷ b.color ∷ []))
 
   pair_is : get_or ps b [] ≡ (block_at bs b).size ∷ (block_at bs b).color ∷ []
-  pair_is = ap (λ ps. get_or ps b []) e ∙ get_or-map (λ (b : Block). b.size ∷ b.color ∷ []) bs b _ _ pair_within
+  pair_is = ap (λ ps. get_or ps b []) e ∙ get_or-map (λ (b : Block). b.size ∷ b.color ∷ []) bs b _ _ within
 
-  pub pair_size : get_or (get_or ps b []) 0 0 ≡ (block_at bs b).size
-  pair_size = ap (λ p. get_or p 0 0) pair_is
-
-  pub pair_color : get_or (get_or ps b []) 1 0 ≡ (block_at bs b).color
-  pair_color = ap (λ p. get_or p 1 0) pair_is
+  pub pair_next : NextBlock bs b (get_or (get_or ps b []) 0 0) (get_or (get_or ps b []) 1 0)
+  pair_next = rw pair_is (drop_one (record { size = 0; color = 0 }) bs b within)
 
 pub pairs_length : (l : List ℕ) {ps : List (List ℕ)} → ps ≡ pairs (blocks l) → length ps ≡ length l / 2
 pairs_length l e = ap length e ∙ length-map (blocks l) (λ b. b.size ∷ b.color ∷ []) ∙ blocks_length l
 
 pub pair_word : (l : List ℕ) {ps : List (List ℕ)} → ps ≡ pairs (blocks l) → {b : ℕ} → b < length ps → get_or (get_or ps b []) 0 0 ≡ get_or l (2 * b) 0
-pair_word l e {b} h = pair_size (blocks l) e h ∙ block_size l b (pair_within (blocks l) e h)
+pair_word l e {b} h = ap (λ p. get_or p 0 0) (pair_is (blocks l) e h) ∙ block_size l b (within (blocks l) e h)
 
 -- all of them have been passed
 pub pairs_done : (bs : List Block) {ps : List (List ℕ)} → ps ≡ pairs bs → {b : ℕ} → length ps ≤ b → drop b bs ≡ []
@@ -91,10 +92,10 @@ pub checking_first : (clue : List ℕ) → Checking clue 0
 checking_first clue = record { same = by_blocks 0 clue }
 
 module _ {clue : List ℕ} {b : ℕ} (C : Checking clue b) where
-  module _ (h : b < length (blocks clue)) {size color : ℕ} (s : size ≡ (block_at (blocks clue) b).size) (c : color ≡ (block_at (blocks clue) b).color) where
+  module _ {size color : ℕ} (h : NextBlock (blocks clue) b size color) where
     next : block_checks 0 clue ≡ refuse (eqb size 0) 4 (2 * b) (refuse (off_color color) 5 (2 * b + 1) (of_blocks (2 * b + 2) (drop (b + 1) (blocks clue))))
     unfolding of_blocks
-    next = C.same ∙ rw (drop_one (record { size = 0; color = 0 }) (blocks clue) b h, s, c)
+    next = C.same ∙ rw h
 
     pub check_size : size ≡ 0 → refused 4 (2 * b) ≡ block_checks 0 clue
     check_size e = sym (next ∙ rw (eq-eqb _ _ e))
@@ -135,11 +136,11 @@ module _ {clue : List ℕ} {at c b : ℕ} (W : Walk clue at c b) where
   unfolding packed_from last_end
   walk_done e = sym (W.ends ∙ rw e)
 
-  module _ (h : b < length (blocks clue)) {size color : ℕ} (s : size ≡ (block_at (blocks clue) b).size) (k : color ≡ (block_at (blocks clue) b).color) where
+  module _ {size color : ℕ} (h : NextBlock (blocks clue) b size color) where
     pub walk_run : packed_from gap at c (drop b (blocks clue))
         ≡ record { start = at + gap c color; size = size; color = color } ∷ packed_from gap (at + gap c color + size) color (drop (b + 1) (blocks clue))
     unfolding packed_from
-    walk_run = rw (drop_one (record { size = 0; color = 0 }) (blocks clue) b h, s, k)
+    walk_run = rw h
 
     pub walk_next : Walk clue (at + gap c color + size) color (b + 1)
     unfolding last_end
@@ -169,18 +170,18 @@ starting_first clue out from h = record {
 }
 
 module _ {clue out₀ out : List ℕ} {from at c b : ℕ} (S : Starting clue out₀ from out at c b) where
-  module _ (h : b < length (blocks clue)) {size color g : ℕ} (s : size ≡ (block_at (blocks clue) b).size) (k : color ≡ (block_at (blocks clue) b).color) (e : g ≡ gap c color) where
+  module _ {size color g : ℕ} (h : NextBlock (blocks clue) b size color) (e : g ≡ gap c color) where
     step : Filling (starts (packed gap (blocks clue))) out₀ from ((at + g) ∷ starts (packed_from gap (at + g + size) color (drop (b + 1) (blocks clue)))) out (from + b)
-    step = fill_as S.fill (ap starts (walk_run S.walk h s k) ∙ rw e)
+    step = fill_as S.fill (ap starts (walk_run S.walk h) ∙ rw e)
 
     pub starting_room : from + b < length out
     starting_room = fill_space step
 
     pub starting_low : at + g + size ≤ min_space gap (blocks clue)
-    starting_low = rw e (walk_low (walk_next S.walk h s k))
+    starting_low = rw e (walk_low (walk_next S.walk h))
 
     pub starting_next : Starting clue out₀ from (set out (from + b) (at + g)) (at + g + size) color (b + 1)
-    starting_next = record { walk = rw e (walk_next S.walk h s k); fill = let n : from + (b + 1) ≡ from + b + 1 = omega arith in rw n (fill_store step) }
+    starting_next = record { walk = rw e (walk_next S.walk h); fill = let n : from + (b + 1) ≡ from + b + 1 = omega arith in rw n (fill_store step) }
 
   pub starting_done : drop b (blocks clue) ≡ [] → b ≡ length clue / 2 → Wrote (starts (packed gap (blocks clue))) out₀ from out (from + length clue / 2)
   starting_done h e = rw (← e) (fill_done S.fill (ap starts (walk_end S.walk h)))

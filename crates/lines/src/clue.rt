@@ -48,6 +48,7 @@ fn min_space(clue: &[u32]) -> u64
 }
 
 // Where the clue is one of a line of that length: its least space.
+#[tactic(auto, using(crate::proofs::Checks::clue_checking))]
 pub fn check_clue(length: usize, clue: &[u32]) -> Result<usize, Refusal>
     ensures { told result ≡ and_then (clue_checks length clue.now) (accepted (Clue.min_space Clue.gap (Clue.blocks clue.now))) }
 {

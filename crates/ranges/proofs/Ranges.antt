@@ -15,7 +15,7 @@ use Rattle.lines.specs.Clue.{Run, end, blocks, gap, packed_from, packed, last_en
 use Rattle.lines.specs.Calls.{ranges_words}
 use Rattle.ranges.specs.Spanned.{spanned}
 use Rattle.ranges.specs.declared.range.Span.{Span}
-use Rattle.lines.proofs.ClueWords.{Walk, walk_first, walk_next, walk_low, walk_run, walk_end}
+use Rattle.lines.proofs.ClueWords.{NextBlock, Walk, walk_first, walk_next, walk_low, walk_run, walk_end}
 
 -- what the range becomes, where R are the runs still to come, and a span is that of those before
 pub shown : ℕ → Option Span → List Run → List ℕ
@@ -58,7 +58,7 @@ shown_next slack None r R = refl
 shown_next slack (Some s) r R = refl
 
 module _ {clue : List ℕ} {k : ℕ} {span : Option Span} {at c b : ℕ} (S : Spanning clue k span at c b) where
-  module _ (h : b < length (blocks clue)) {size color g : ℕ} (s : size ≡ (block_at (blocks clue) b).size) (q : color ≡ (block_at (blocks clue) b).color) (e : g ≡ gap c color) where
+  module _ {size color g : ℕ} (h : NextBlock (blocks clue) b size color) (e : g ≡ gap c color) where
     next : Run
     next = record { start = at + g; size = size; color = color }
 
@@ -67,10 +67,10 @@ module _ {clue : List ℕ} {k : ℕ} {span : Option Span} {at c b : ℕ} (S : Sp
 
     split : packed_from gap at c (drop b (blocks clue)) ≡ next ∷ more
     unfolding next more
-    split = walk_run S.walk h s q ∙ rw e
+    split = walk_run S.walk h ∙ rw e
 
     pub spanning_walk : Walk clue (at + g + size) color (b + 1)
-    spanning_walk = rw e (walk_next S.walk h s q)
+    spanning_walk = rw e (walk_next S.walk h)
 
     pub spanning_other : (color ≡ k → ⊥) → Spanning clue k span (at + g + size) color (b + 1)
     unfolding next more

@@ -48,6 +48,13 @@ first_most ws S (suc l) h =
     let F = fine_lines (puzzle ws) (walked_sections 0 ws S).fine l (omega arith) in
     omega (arith, first_most ws S l (omega arith), line_vars (puzzle ws) l F.few (size_within (length_at (puzzle ws) l) F.sized))
 
+-- line l, laid where it fits; the number of its positions stands at `to`
+pub record LineDone (z : Puzzle) (l cells : ℕ) (table table' : List ℕ) (to next : ℕ) : Type 0 where
+  pub fits : min_space gap (clue_at z l) ≤ cells
+  pub wrote : Wrote (laid_words z l) table (line_size * l) table' next
+  pub kept : length table' ≡ length table
+  pub positions_is : get_or table' to 0 ≡ positions_at z l
+
 -- ---- one line of words whose sections were read
 
 module _ (ws : List ℕ) (S : Sectioned ws) (l : ℕ) (h : l < lines (puzzle ws)) where
@@ -117,23 +124,22 @@ module _ (ws : List ℕ) (S : Sectioned ws) (l : ℕ) (h : l < lines (puzzle ws)
           accepted_called : Answers (clue_checks cells (words (clue_at z l))) (starts_words cells (words (clue_at z l))) (take (length stored - to) (drop to stored)) (Ok used) tail
           accepted_called = rw r at called
 
-          pub lay_fits : min_space gap (clue_at z l) ≤ cells
+          lay_fits : min_space gap (clue_at z l) ≤ cells
           lay_fits = ltb-false _ _ (refuse_accepted (ltb cells (min_space gap (clue_at z l))) _ _ _ (accepted_checks accepted_called ∙ line_checks_lem)).0
 
-          pub lay_wrote : Wrote (laid_words z l) table (line_size * l) (put_mid to (length stored - to) stored tail) (to + used)
+          lay_wrote : Wrote (laid_words z l) table (line_size * l) (put_mid to (length stored - to) stored tail) (to + used)
           unfolding laid_words
           lay_wrote = rw (← P.at_is, ← P.first_is, ← ce) (wrote_then (omega (arith, room.low)) W (wrote_tail (accepted_wrote accepted_called)))
 
-          pub lay_kept : length (put_mid to (length stored - to) stored tail) ≡ length table
-          lay_kept = wrote_kept (omega (arith, room, line_size_lem z l)) lay_wrote
-
-          -- what stands there is the number of positions
-          pub lay_positions : get_or (put_mid to (length stored - to) stored tail) to 0 ≡ positions_at z l
+          lay_positions : get_or (put_mid to (length stored - to) stored tail) to 0 ≡ positions_at z l
           lay_positions =
               ap (λ (k : ℕ). get_or (put_mid to (length stored - to) stored tail) k 0) (omega arith)
               ∙ wrote_at {at = to} (omega (arith, W.next_is, room.low, stored_long)) (wrote_tail (accepted_wrote accepted_called)) 0 0 (omega (arith, starts_size cells (clue_at z l)))
               ∙ starts_positions cells (clue_at z l)
               ∙ rw ce
+
+          pub line_done : LineDone z l cells table (put_mid to (length stored - to) stored tail) to (to + used)
+          line_done = record { fits = lay_fits; wrote = lay_wrote; kept = wrote_kept (omega (arith, room, line_size_lem z l)) lay_wrote; positions_is = lay_positions }
 
 -- ---- one after another
 

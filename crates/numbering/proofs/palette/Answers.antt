@@ -1,5 +1,4 @@
 use native.Mathlib.Omega.{arith}
-use Rattle.lists.proofs.Emitting.{emit_kept}
 use Rattle.numbering.proofs.Palettes.{palette_first, palette_skip, palette_room, palette_next, palette_done}
 use Rattle.numbering.proofs.palette.Goals as goal
 
@@ -9,23 +8,11 @@ loop-k-init c = palette_first _ _ c.requires
 pub loop-k-preserved-then-not-has : goal.loop-k-preserved-then-not-has
 loop-k-preserved-then-not-has c = palette_skip _ c.loop-k.invariant c.loop-k-test.true c.has.ensures (c.if-not-has.true)
 
-pub overflow_add-out : goal.overflow_add-out
-overflow_add-out c = omega (arith, palette_room _ c.loop-k.invariant c.loop-k-test.true c.has.ensures (c.if-not-has.false), emit_kept c.loop-k.invariant)
-
-pub offset_bounds-out-at : goal.offset_bounds-out-at
-offset_bounds-out-at c = omega (arith, palette_room _ c.loop-k.invariant c.loop-k-test.true c.has.ensures (c.if-not-has.false), emit_kept c.loop-k.invariant)
-
 pub bounds-out-at : goal.bounds-out-at
 bounds-out-at c = omega (arith, palette_room _ c.loop-k.invariant c.loop-k-test.true c.has.ensures (c.if-not-has.false))
 
-pub overflow_add-at : goal.overflow_add-at
-overflow_add-at c = omega (arith, palette_room _ c.loop-k.invariant c.loop-k-test.true c.has.ensures (c.if-not-has.false), emit_kept c.loop-k.invariant)
-
 pub loop-k-preserved : goal.loop-k-preserved
 loop-k-preserved c = palette_next _ c.loop-k.invariant c.loop-k-test.true c.has.ensures (c.if-not-has.false)
-
-pub shape_of-out : goal.shape_of-out
-shape_of-out c = emit_kept c.loop-k.invariant
 
 pub returns : goal.returns
 returns c = palette_done _ c.loop-k.invariant c.loop-k-test.false

@@ -3,9 +3,6 @@ use lib.Seq.{length-take-le}
 use Rattle.lists.proofs.Fronts.{wrote_front}
 use Rattle.encoding.proofs.program.encode.Goals as goal
 
-pub slice_bounds-tell-end-2 : goal.slice_bounds-tell-end-2
-slice_bounds-tell-end-2 c = sym (length-take-le 65536 c.args.out.now c.requires)
-
 pub tell-requires : goal.tell-requires
 tell-requires c = sym (length-take-le 65536 c.args.out.now c.requires)
 

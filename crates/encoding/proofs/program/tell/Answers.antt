@@ -3,9 +3,6 @@ use native.Mathlib.Omega.{arith}
 use Rattle.encoding.proofs.Telling.{text_told, text_within, refusal_told}
 use Rattle.encoding.proofs.program.tell.Goals as goal
 
-pub put_refused-requires : goal.put_refused-requires
-put_refused-requires c = omega (arith, c.requires, c.write_input.auto.out)
-
 pub returns-in-Err : goal.returns-in-Err
 returns-in-Err c = (refusal_told c.args.input.now c.requires _ c.in-Err.ensures (c.wide.ensures ∙ c.number.ensures) c.place.ensures c.put_refused.ensures.0, omega (arith, c.put_refused.ensures.1))
 

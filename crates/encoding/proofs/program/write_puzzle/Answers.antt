@@ -1,8 +1,6 @@
 use mathlib.Core.Path.{refl, sym}
-use native.Mathlib.Omega.{arith}
-use lib.Seq.{length-take-le}
 use Rattle.refusals.proofs.Answering.{handed, answers_refused}
-use Rattle.encoding.proofs.PuzzleText.{counts_refused, counts_variables, clauses_told, clauses_within, text_answers}
+use Rattle.encoding.proofs.PuzzleText.{counts_refused, counts_variables, clauses_told, text_answers}
 use Rattle.encoding.proofs.program.write_puzzle.Goals as goal
 
 pub returns-in_err-counts : goal.returns-in_err-counts
@@ -10,12 +8,6 @@ returns-in_err-counts c = rw (handed c.from_residual.result c.from_residual.ensu
 
 pub returns-in_err-n : goal.returns-in_err-n
 returns-in_err-n c = rw (handed _ c.from_residual-in_err-n.ensures.1) (answers_refused _ _ _ (clauses_told c.args.words.now (sym c.clause_buffer-buffer.ensures) _ c.in_err-n.ensures))
-
-pub slice_bounds-buffer-end : goal.slice_bounds-buffer-end
-slice_bounds-buffer-end c = omega (arith, clauses_within c.args.words.now (sym c.clause_buffer-buffer.ensures) c.in_ok-n.ensures, c.clauses.auto.out, c.clause_buffer-buffer.ensures)
-
-pub slice_bounds-dimacs-end : goal.slice_bounds-dimacs-end
-slice_bounds-dimacs-end c = sym (length-take-le _ _ (omega (arith, clauses_within c.args.words.now (sym c.clause_buffer-buffer.ensures) c.in_ok-n.ensures, c.clauses.auto.out, c.clause_buffer-buffer.ensures)))
 
 pub returns : goal.returns
 returns c = text_answers c.args.words.now (sym c.clause_buffer-buffer.ensures) c.in_ok-n.ensures (counts_variables c.args.words.now refl c.in_ok-counts.ensures) c.dimacs.ensures

@@ -1,19 +1,12 @@
 use native.Mathlib.Omega.{arith}
-use lib.ListN.{length-set}
 use Rattle.runs.specs.Strided.{strided}
 use Rattle.lines.proofs.Coloring.{runs_few}
 use Rattle.runs.proofs.LineCells.{strided_length}
 use Rattle.grids.proofs.ClueSections.{clue_room, clue_count, clue_wrote}
 use Rattle.grids.proofs.clues.put_clue.Goals as goal
 
-pub overflow_add-at : goal.overflow_add-at
-overflow_add-at c = omega (arith, clue_room (strided c.args.from c.args.step c.args.len c.args.cells.now) c.args.out.now c.args.at c.requires.1)
-
 pub put_runs-to-requires : goal.put_runs-to-requires
 put_runs-to-requires c = (c.requires.0, clue_room (strided c.args.from c.args.step c.args.len c.args.cells.now) c.args.out.now c.args.at c.requires.1)
-
-pub overflow_sub-out : goal.overflow_sub-out
-overflow_sub-out c = omega (arith, c.put_runs-to.ensures.next_is)
 
 pub overflow_cast-out : goal.overflow_cast-out
 overflow_cast-out c =
@@ -25,9 +18,6 @@ pub bounds-out-at : goal.bounds-out-at
 bounds-out-at c =
     let a = c.args in
     omega (arith, clue_room (strided a.from a.step a.len a.cells.now) a.out.now a.at c.requires.1, c.put_runs-to.auto.out)
-
-pub shape_of-out : goal.shape_of-out
-shape_of-out c = simp length-set c.put_runs-to.auto.out
 
 pub returns : goal.returns
 returns c = clue_wrote _ _ _ c.requires.1 c.put_runs-to.ensures

@@ -1,9 +1,6 @@
 use native.Mathlib.Omega.{arith}
-use Rattle.grids.proofs.GridWords.{rows_lined, grid_words_length, grid_words_most}
+use Rattle.grids.proofs.GridWords.{grid_words_length, grid_words_most}
 use Rattle.grids.proofs.read.count_grid.Goals as goal
-
-pub count_clues-requires : goal.count_clues-requires
-count_clues-requires c = rows_lined c.requires
 
 pub overflow_add-result : goal.overflow_add-result
 overflow_add-result c = omega (arith, grid_words_most c.requires, c.count_clues.ensures, c.count_columns.ensures)

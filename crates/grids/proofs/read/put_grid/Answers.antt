@@ -1,16 +1,10 @@
 use mathlib.Core.Path.{◌∙◌}
 use Rattle.grids.proofs.Cells.{sized_most}
-use Rattle.grids.proofs.GridWords.{rows_laid, columns_laid, columns_room, rows_room, cells_room, grid_wrote}
+use Rattle.grids.proofs.GridWords.{columns_room, rows_room, cells_room, grid_wrote}
 use Rattle.grids.proofs.read.put_grid.Goals as goal
-
-pub put_clues-rows-requires-clause-laid : goal.put_clues-rows-requires-clause-laid
-put_clues-rows-requires-clause-laid c = columns_laid c.requires.0
 
 pub put_clues-rows-requires-clause-cells_in_bounds : goal.put_clues-rows-requires-clause-cells_in_bounds
 put_clues-rows-requires-clause-cells_in_bounds c = columns_room c.requires.0 c.args.out.now c.requires.2
-
-pub put_clues-cells-requires-clause-laid : goal.put_clues-cells-requires-clause-laid
-put_clues-cells-requires-clause-laid c = rows_laid c.requires.0
 
 pub put_clues-cells-requires-clause-cells_in_bounds : goal.put_clues-cells-requires-clause-cells_in_bounds
 put_clues-cells-requires-clause-cells_in_bounds c =
@@ -18,18 +12,12 @@ put_clues-cells-requires-clause-cells_in_bounds c =
     let a = c.put_clues-rows in
     rows_room p.0 _ p.2 a.ensures a.auto.out
 
-pub cells_mask-requires : goal.cells_mask-requires
-cells_mask-requires c = c.requires.1
-
 pub put_masks-requires : goal.put_masks-requires
 put_masks-requires c =
     let a = c.put_clues-rows in
     let p = c.requires in
     let k = a.auto.out in
     (sized_most p.0, cells_room p.0 _ p.2 a.ensures k c.put_clues-cells.ensures (c.put_clues-cells.auto.out ∙ k))
-
-pub shape_of-out : goal.shape_of-out
-shape_of-out c = c.put_masks.auto.out ∙ c.put_clues-cells.auto.out ∙ c.put_clues-rows.auto.out
 
 pub returns : goal.returns
 returns c =

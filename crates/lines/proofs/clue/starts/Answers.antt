@@ -5,12 +5,8 @@ use Rattle.lines.proofs.Checks.{clue_ok}
 use Rattle.lines.proofs.ClueWords.{starts_words_length, starts_wrote}
 use Rattle.lines.proofs.clue.starts.Goals as goal
 
--- `ok` in these answers: the clue is accepted
-
 pub returns-then-out-need : goal.returns-then-out-need
-returns-then-out-need c =
-    let ok = clue_ok _ _ c.in_ok-space.ensures in
-    answers_short _ _ ok.passes (sym (starts_words_length _ _)) c.if-out-need.true
+returns-then-out-need c = answers_short _ _ (clue_ok _ _ c.in_ok-space.ensures).passes (sym (starts_words_length _ _)) c.if-out-need.true
 
 pub positions_number-requires : goal.positions_number-requires
 positions_number-requires c =
@@ -18,19 +14,13 @@ positions_number-requires c =
     (ok.fits, ok.most)
 
 pub overflow_cast-out : goal.overflow_cast-out
-overflow_cast-out c =
-    let ok = clue_ok _ _ c.in_ok-space.ensures in
-    omega (arith, ok, c.positions_number.ensures)
+overflow_cast-out c = omega (arith, clue_ok _ _ c.in_ok-space.ensures, c.positions_number.ensures)
 
 pub overflow_cast-out-2 : goal.overflow_cast-out-2
-overflow_cast-out-2 c =
-    let ok = clue_ok _ _ c.in_ok-space.ensures in
-    omega (arith, ok)
+overflow_cast-out-2 c = omega (arith, clue_ok _ _ c.in_ok-space.ensures)
 
 pub block_starts-requires-clause-clue_bound : goal.block_starts-requires-clause-clue_bound
-block_starts-requires-clause-clue_bound c =
-    let ok = clue_ok _ _ c.in_ok-space.ensures in
-    omega (arith, ok)
+block_starts-requires-clause-clue_bound c = omega (arith, clue_ok _ _ c.in_ok-space.ensures)
 
 pub returns : goal.returns
 returns c =

@@ -1,9 +1,7 @@
 use mathlib.Core.Path.{ap, ◌∙◌}
-use native.Mathlib.Omega.{arith}
 use lib.IntN.{pos}
 use Rattle.lists.proofs.Emitting.{emit_room, emit_next}
 use Rattle.literals.proofs.Words.{word_is}
-use Rattle.tables.proofs.Laying.{lines_most}
 use Rattle.sections.proofs.Section.{count_room, count_first, count_done}
 use Rattle.placement.proofs.SectionLoops.{lines_are}
 use Rattle.placement.proofs.section.write_lines.Goals as goal
@@ -13,9 +11,6 @@ bounds-out-0 c = count_room _ _ c.requires.n_in_bounds
 
 pub loop-k-init : goal.loop-k-init
 loop-k-init c = count_first _ _ (lines_are _ _ _ _) c.args.out.now c.requires.n_in_bounds _
-
-pub overflow_add-from : goal.overflow_add-from
-overflow_add-from c = omega (arith, lines_most _ c.args.lines.ready.sectioned 0 (omega arith))
 
 pub line_clauses-to-requires : goal.line_clauses-to-requires
 line_clauses-to-requires c = rw c.line.ensures (emit_room c.loop-k.invariant c.loop-k-test.true)

@@ -1,133 +1,61 @@
-use Rattle.tables.proofs.Laying.{line_fine, lay_kept, lay_fits, lay_wrote, lay_positions, line_vars, room, lay_refused}
-use Rattle.puzzles.specs.Firsts.{positions_at}
-use Rattle.lines.proofs.Checks.{size_within}
+use Rattle.tables.proofs.Laying.{Room, room, LineDone, line_done, lay_refused}
 use Rattle.refusals.specs.Verdict.{accepted}
-use mathlib.Core.Path.{ap, ◌≡◌, ap₂, ◌∙◌}
+use Rattle.lines.specs.Clue.{gap, min_space}
 use Rattle.puzzles.specs.Checks.{puzzle}
 use Rattle.puzzles.specs.Puzzle.{clue_at}
+use mathlib.Core.Path.{ap, ap₂, ◌∙◌}
 use borrow.Author.Tests.{lt-ltb, le-ltb}
+use borrow.Rule.Slice.PartMut.{put_mid}
 use lib.ListN.{length}
-use Prim.Native.Nat.{◌*◌}
+use Prim.Native.Nat.{◌+◌, ◌-◌, ◌*◌, ◌<◌}
 use native.Mathlib.Omega.{arith}
 use Rattle.tables.proofs.table.lay_line.Goals as goal
+use Rattle.tables.proofs.table.lay_line.Goals.{Start, In-Ok, In_default}
+
+here : (c : Start) → Room c.args.words.now c.requires.sectioned c.args.l c.requires.l_bound.0 c.requires.standing
+here c = room _ c.requires.sectioned _ c.requires.l_bound.0 c.requires.standing
+
+short : (c : In_default) → c.args.cells < min_space gap (clue_at (puzzle c.args.words.now) c.args.l)
+short c = lay_refused _ c.requires.sectioned _ c.requires.l_bound.0 c.requires.standing c.requires.l_bound.1 _ c.requires.l_bound.2 c.put_pair-to.ensures c.wide-n.ensures _ c.starts-answer.ensures _ c.in_default.is
+
+done : (c : In-Ok) → let to = c.put_pair-to.result in let stored = c.put_pair-to.new.out in
+    LineDone (puzzle c.args.words.now) c.args.l c.args.cells c.args.table.now (put_mid to (length stored - to) stored c.starts-answer.new.out) to (to + c.in-Ok.field-0)
+done c = line_done _ c.requires.sectioned _ c.requires.l_bound.0 c.requires.standing c.requires.l_bound.1 _ c.requires.l_bound.2 c.put_pair-to.ensures c.wide-n.ensures _ c.starts-answer.ensures c.in-Ok.is
 
 pub offset_bounds-words-at : goal.offset_bounds-words-at
-offset_bounds-words-at c =
-    let room_is = room _ c.requires.sectioned _ c.requires.l_bound.0 {at = c.args.at} {first = c.args.first} c.requires.standing in
-    omega (arith, room_is)
+offset_bounds-words-at c = omega (arith, here (goal.at.offset_bounds-words-at c).Start)
 
 pub bounds-words-at : goal.bounds-words-at
-bounds-words-at c =
-    let room_is = room _ c.requires.sectioned _ c.requires.l_bound.0 {at = c.args.at} {first = c.args.first} c.requires.standing in
-    omega (arith, room_is)
+bounds-words-at c = omega (arith, here (goal.at.bounds-words-at c).Start)
 
 pub overflow_cast-at : goal.overflow_cast-at
-overflow_cast-at c =
-    let room_is = room _ c.requires.sectioned _ c.requires.l_bound.0 {at = c.args.at} {first = c.args.first} c.requires.standing in
-    omega (arith, room_is)
+overflow_cast-at c = omega (arith, here (goal.at.overflow_cast-at c).Start)
 
 pub overflow_cast-first : goal.overflow_cast-first
-overflow_cast-first c =
-    let room_is = room _ c.requires.sectioned _ c.requires.l_bound.0 {at = c.args.at} {first = c.args.first} c.requires.standing in
-    omega (arith, room_is)
+overflow_cast-first c = omega (arith, here (goal.at.overflow_cast-first c).Start)
 
 pub overflow_mul-l : goal.overflow_mul-l
-overflow_mul-l c =
-    let room_is = room _ c.requires.sectioned _ c.requires.l_bound.0 {at = c.args.at} {first = c.args.first} c.requires.standing in
-    omega (arith, room_is)
+overflow_mul-l c = omega (arith, here (goal.at.overflow_mul-l c).Start)
 
 pub put_pair-to-requires : goal.put_pair-to-requires
-put_pair-to-requires c =
-    let room_is = room _ c.requires.sectioned _ c.requires.l_bound.0 {at = c.args.at} {first = c.args.first} c.requires.standing in
-    omega (arith, room_is, c.requires.l_bound)
-
-pub overflow_add-at : goal.overflow_add-at
-overflow_add-at c =
-    let room_is = room _ c.requires.sectioned _ c.requires.l_bound.0 {at = c.args.at} {first = c.args.first} c.requires.standing in
-    omega (arith, room_is, c.wide-n.ensures)
-
-pub overflow_add-at-2 : goal.overflow_add-at-2
-overflow_add-at-2 c =
-    let room_is = room _ c.requires.sectioned _ c.requires.l_bound.0 {at = c.args.at} {first = c.args.first} c.requires.standing in
-    omega (arith, room_is, c.wide-n.ensures)
-
-pub overflow_mul-n : goal.overflow_mul-n
-overflow_mul-n c =
-    let room_is = room _ c.requires.sectioned _ c.requires.l_bound.0 {at = c.args.at} {first = c.args.first} c.requires.standing in
-    omega (arith, room_is, c.wide-n.ensures)
-
-pub overflow_add-at-3 : goal.overflow_add-at-3
-overflow_add-at-3 c =
-    let room_is = room _ c.requires.sectioned _ c.requires.l_bound.0 {at = c.args.at} {first = c.args.first} c.requires.standing in
-    omega (arith, room_is, c.wide-n.ensures)
-
-pub offset_bounds-words-at-2 : goal.offset_bounds-words-at-2
-offset_bounds-words-at-2 c =
-    let room_is = room _ c.requires.sectioned _ c.requires.l_bound.0 {at = c.args.at} {first = c.args.first} c.requires.standing in
-    omega (arith, room_is, c.wide-n.ensures)
-
-pub slice_bounds-starts-count : goal.slice_bounds-starts-count
-slice_bounds-starts-count c =
-    let room_is = room _ c.requires.sectioned _ c.requires.l_bound.0 {at = c.args.at} {first = c.args.first} c.requires.standing in
-    omega (arith, room_is, c.wide-n.ensures)
-
-pub slice_bounds-starts-start : goal.slice_bounds-starts-start
-slice_bounds-starts-start c =
-    let room_is = room _ c.requires.sectioned _ c.requires.l_bound.0 {at = c.args.at} {first = c.args.first} c.requires.standing in
-    omega (arith, room_is, c.wide-n.ensures)
+put_pair-to-requires c = omega (arith, here (goal.at.put_pair-to-requires c).Start, c.requires.l_bound)
 
 pub slice_bounds-starts-end : goal.slice_bounds-starts-end
-slice_bounds-starts-end c =
-    let room_is = room _ c.requires.sectioned _ c.requires.l_bound.0 {at = c.args.at} {first = c.args.first} c.requires.standing in
-    omega (arith, room_is, c.wide-n.ensures)
-
-pub offset_bounds-table-to : goal.offset_bounds-table-to
-offset_bounds-table-to c =
-    let room_is = room _ c.requires.sectioned _ c.requires.l_bound.0 {at = c.args.at} {first = c.args.first} c.requires.standing in
-    omega (arith, room_is, c.requires.l_bound, c.put_pair-to.ensures, c.put_pair-to.auto)
-
-pub slice_bounds-starts-count-2 : goal.slice_bounds-starts-count-2
-slice_bounds-starts-count-2 c =
-    let room_is = room _ c.requires.sectioned _ c.requires.l_bound.0 {at = c.args.at} {first = c.args.first} c.requires.standing in
-    omega (arith, room_is, c.requires.l_bound, c.put_pair-to.ensures, c.put_pair-to.auto)
-
-pub slice_bounds-starts-start-2 : goal.slice_bounds-starts-start-2
-slice_bounds-starts-start-2 c =
-    let room_is = room _ c.requires.sectioned _ c.requires.l_bound.0 {at = c.args.at} {first = c.args.first} c.requires.standing in
-    omega (arith, room_is, c.requires.l_bound, c.put_pair-to.ensures, c.put_pair-to.auto)
+slice_bounds-starts-end c = omega (arith, here (goal.at.slice_bounds-starts-end c).Start, c.wide-n.ensures)
 
 pub returns-in_default-clause-result_value : goal.returns-in_default-clause-result_value
-returns-in_default-clause-result_value c =
-    let short = lay_refused _ c.requires.sectioned _ c.requires.l_bound.0 {at = c.args.at} {first = c.args.first} c.requires.standing c.requires.l_bound.1 _ c.requires.l_bound.2 c.put_pair-to.ensures c.wide-n.ensures _ c.starts-answer.ensures _ c.in_default.is in
-    rw (lt-ltb _ _ short)
+returns-in_default-clause-result_value c = rw (lt-ltb _ _ (short (goal.at.returns-in_default-clause-result_value c).In_default))
 
 pub returns-in_default-clause-by_index : goal.returns-in_default-clause-by_index
-returns-in_default-clause-by_index c =
-    let short = lay_refused _ c.requires.sectioned _ c.requires.l_bound.0 {at = c.args.at} {first = c.args.first} c.requires.standing c.requires.l_bound.1 _ c.requires.l_bound.2 c.put_pair-to.ensures c.wide-n.ensures _ c.starts-answer.ensures _ c.in_default.is in
-    λ f. absurd (omega (arith, short, f))
-
-pub offset_bounds-table-to-2 : goal.offset_bounds-table-to-2
-offset_bounds-table-to-2 c =
-    let room_is = room _ c.requires.sectioned _ c.requires.l_bound.0 {at = c.args.at} {first = c.args.first} c.requires.standing in
-    omega (arith, room_is, c.put_pair-to.ensures)
+returns-in_default-clause-by_index c = λ f. absurd (omega (arith, short (goal.at.returns-in_default-clause-by_index c).In_default, f))
 
 pub bounds-table-to : goal.bounds-table-to
-bounds-table-to c =
-    let room_is = room _ c.requires.sectioned _ c.requires.l_bound.0 {at = c.args.at} {first = c.args.first} c.requires.standing in
-    omega (arith, room_is, c.put_pair-to.ensures, c.requires.l_bound, lay_kept _ c.requires.sectioned _ c.requires.l_bound.0 {at = c.args.at} {first = c.args.first} c.requires.standing c.requires.l_bound.1 _ c.requires.l_bound.2 c.put_pair-to.ensures c.wide-n.ensures _ c.starts-answer.ensures c.in-Ok.is)
-
-pub overflow_mul-result : goal.overflow_mul-result
-overflow_mul-result c =
-    let room_is = room _ c.requires.sectioned _ c.requires.l_bound.0 {at = c.args.at} {first = c.args.first} c.requires.standing in
-    let vars : (c.wide-n.result * c.wide.result) ≡ length (clue_at (puzzle c.args.words.now) c.args.l) * positions_at (puzzle c.args.words.now) c.args.l = ap₂ ◌*◌ (c.wide-n.ensures ∙ room_is.count_is) (c.wide.ensures ∙ lay_positions _ c.requires.sectioned _ c.requires.l_bound.0 {at = c.args.at} {first = c.args.first} c.requires.standing c.requires.l_bound.1 _ c.requires.l_bound.2 c.put_pair-to.ensures c.wide-n.ensures _ c.starts-answer.ensures c.in-Ok.is) in
-    omega (arith, vars, line_vars (puzzle c.args.words.now) c.args.l room_is.few (size_within _ (line_fine _ c.requires.sectioned _ c.requires.l_bound.0).sized))
+bounds-table-to c = omega (arith, here (goal.at.bounds-table-to c).Start, c.put_pair-to.ensures, c.requires.l_bound, (done (goal.at.bounds-table-to c).In-Ok).kept)
 
 pub returns-clause-result_value : goal.returns-clause-result_value
 returns-clause-result_value c =
-    let room_is = room _ c.requires.sectioned _ c.requires.l_bound.0 {at = c.args.at} {first = c.args.first} c.requires.standing in
-    let vars : (c.wide-n.result * c.wide.result) ≡ length (clue_at (puzzle c.args.words.now) c.args.l) * positions_at (puzzle c.args.words.now) c.args.l = ap₂ ◌*◌ (c.wide-n.ensures ∙ room_is.count_is) (c.wide.ensures ∙ lay_positions _ c.requires.sectioned _ c.requires.l_bound.0 {at = c.args.at} {first = c.args.first} c.requires.standing c.requires.l_bound.1 _ c.requires.l_bound.2 c.put_pair-to.ensures c.wide-n.ensures _ c.starts-answer.ensures c.in-Ok.is) in
-    let fits = lay_fits _ c.requires.sectioned _ c.requires.l_bound.0 {at = c.args.at} {first = c.args.first} c.requires.standing c.requires.l_bound.1 _ c.requires.l_bound.2 c.put_pair-to.ensures c.wide-n.ensures _ c.starts-answer.ensures c.in-Ok.is in
-    rw (le-ltb _ _ fits) (ap accepted vars)
+    let D = done (goal.at.returns-clause-result_value c).In-Ok in
+    rw (le-ltb _ _ D.fits) (ap accepted (ap₂ ◌*◌ (c.wide-n.ensures ∙ (here (goal.at.returns-clause-result_value c).Start).count_is) (c.wide.ensures ∙ D.positions_is)))
 
 pub returns-clause-by_index : goal.returns-clause-by_index
-returns-clause-by_index c = λ f. (_, lay_wrote _ c.requires.sectioned _ c.requires.l_bound.0 {at = c.args.at} {first = c.args.first} c.requires.standing c.requires.l_bound.1 _ c.requires.l_bound.2 c.put_pair-to.ensures c.wide-n.ensures _ c.starts-answer.ensures c.in-Ok.is)
+returns-clause-by_index c = λ f. (_, (done (goal.at.returns-clause-by_index c).In-Ok).wrote)

@@ -1,4 +1,4 @@
-use Rattle.lists.proofs.Emitting.{emit_kept, emit_next}
+use Rattle.lists.proofs.Emitting.{emit_next}
 use Rattle.grids.proofs.Cells.{columns_first, columns_room, columns_done}
 use Rattle.transposing.proofs.columns.put_columns.Goals as goal
 
@@ -15,9 +15,6 @@ put_column-at-requires c =
 
 pub loop-x-preserved : goal.loop-x-preserved
 loop-x-preserved c = emit_next c.loop-x.invariant c.loop-x-test.true c.put_column-at.ensures
-
-pub shape_of-out : goal.shape_of-out
-shape_of-out c = emit_kept c.loop-x.invariant
 
 pub returns : goal.returns
 returns c = columns_done c.requires.0 c.loop-x.invariant c.loop-x-test.false

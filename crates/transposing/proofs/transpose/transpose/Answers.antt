@@ -1,11 +1,8 @@
 use native.Mathlib.Omega.{arith}
-use Rattle.refusals.proofs.Answering.{handed, answers_refused, answers_short, answers_wrote}
+use Rattle.refusals.proofs.Answering.{answers_short, answers_wrote}
 use Rattle.grids.proofs.Cells.{transposed_size}
 use Rattle.grids.proofs.Checking.{size_ok}
 use Rattle.transposing.proofs.transpose.transpose.Goals as goal
-
-pub returns-in_err-check_size : goal.returns-in_err-check_size
-returns-in_err-check_size c = rw (handed c.from_residual.result c.from_residual.ensures.1) (answers_refused _ _ _ c.in_err-check_size.ensures)
 
 pub returns-then-out-grid : goal.returns-then-out-grid
 returns-then-out-grid c =
@@ -16,9 +13,6 @@ pub put_columns-requires : goal.put_columns-requires
 put_columns-requires c =
     let e = c.in_ok-check_size.ensures in
     (size_ok e, c.if-out-grid.false)
-
-pub shape_of-out : goal.shape_of-out
-shape_of-out c = c.put_columns.auto.out
 
 pub returns : goal.returns
 returns c =

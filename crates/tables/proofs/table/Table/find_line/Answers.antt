@@ -12,20 +12,8 @@ offset_bounds-self-line c = omega (arith, lines_most c.args.self.words.now c.arg
 pub bounds-self-line : goal.bounds-self-line
 bounds-self-line c = omega (arith, lines_most c.args.self.words.now c.args.self.sectioned c.args.l c.requires, c.args.self.long)
 
-pub overflow_add-begin : goal.overflow_add-begin
-overflow_add-begin c = omega (arith, count_within c.args.self.words.now c.args.self.sectioned c.args.self.lines.now c.args.self.laid c.args.l c.requires c.wide-count.ensures)
-
-pub offset_bounds-self-count : goal.offset_bounds-self-count
-offset_bounds-self-count c = omega (arith, count_within c.args.self.words.now c.args.self.sectioned c.args.self.lines.now c.args.self.laid c.args.l c.requires c.wide-count.ensures)
-
 pub bounds-self-count : goal.bounds-self-count
 bounds-self-count c = omega (arith, count_within c.args.self.words.now c.args.self.sectioned c.args.self.lines.now c.args.self.laid c.args.l c.requires c.wide-count.ensures)
-
-pub overflow_mul-end : goal.overflow_mul-end
-overflow_mul-end c = omega (arith, count_within c.args.self.words.now c.args.self.sectioned c.args.self.lines.now c.args.self.laid c.args.l c.requires c.wide-count.ensures, c.wide.ensures)
-
-pub overflow_add-end : goal.overflow_add-end
-overflow_add-end c = omega (arith, count_within c.args.self.words.now c.args.self.sectioned c.args.self.lines.now c.args.self.laid c.args.l c.requires c.wide-count.ensures, c.wide.ensures)
 
 pub returns : goal.returns
 returns c = found c.args.self.words.now c.args.self.sectioned c.args.self.lines.now c.args.self.laid c.args.l c.requires c.wide-count.ensures c.wide.ensures c.args.self.long
