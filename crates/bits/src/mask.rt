@@ -3,6 +3,7 @@ ghost use Rattle.std.specs.Prelude.{◌≡◌, ◌≤◌};
 ghost use Rattle.bits.specs.Bits.{bit, with_bit, solved};
 
 // Is bit k set?
+#[tactic(auto, unfolding(crate::specs::Bits::bit))]
 pub fn has(mask: u32, k: u32) -> bool
     ensures { result ≡ bit mask k }
 {
@@ -21,6 +22,7 @@ pub fn set(mask: u32, k: u32) -> u32
 }
 
 // Sets bit k.
+#[tactic(auto, unfolding(crate::specs::Bits::with_bit))]
 pub fn with(mask: u32, k: u32) -> u32
     ensures { result ≡ with_bit mask k }
 {
@@ -31,6 +33,7 @@ pub fn with(mask: u32, k: u32) -> u32
 }
 
 // Whether one bit is set: a mask by the number minus one drops the lowest, and none is left.
+#[tactic(auto, using(crate::proofs::LowestFirst::solved_none, crate::proofs::LowestFirst::solved_alone))]
 pub fn solved(mask: u32) -> bool
     ensures { result ≡ solved mask }
 {

@@ -28,6 +28,7 @@ pub fn two_powers(mask: u32, out: &mut [u32]) -> Result<usize, Refusal>
 }
 
 // Joins words by or.
+#[tactic(auto, unfolding(crate::specs::Bits::joined))]
 pub fn from_two_powers(words: &[u32]) -> u32
     ensures { result ≡ joined words.now }
 {

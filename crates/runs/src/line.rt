@@ -37,6 +37,7 @@ fn find_byte(line: &[u8]) -> Result<(), Refusal>
 }
 
 // Looks for the first byte that is no colour only where there is one.
+#[tactic(auto, using(lines::proofs::Checks::bytes_passed))]
 pub fn check_bytes(line: &[u8]) -> Result<(), Refusal>
     ensures { checked result ≡ byte_checks line.now }
 {
@@ -47,6 +48,7 @@ pub fn check_bytes(line: &[u8]) -> Result<(), Refusal>
 }
 
 // 1 where a cell begins a run after one of the colour before. It is added, so that the loops which count have no branch.
+#[tactic(auto, using(crate::proofs::Growing::begins_same, crate::proofs::Growing::begins_blank, crate::proofs::Growing::begins_some))]
 pub fn run_begins(before: u8, color: u8) -> u8
     ensures { (result ≡ begins before color) × (result ≤ 1) }
 {
