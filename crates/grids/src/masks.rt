@@ -20,6 +20,7 @@ fn cell_colors(grid: &[u8]) -> u32
 }
 
 // A blank grid has colour 1.
+#[tactic(auto, using(crate::proofs::CellMasks::mask_blank, crate::proofs::CellMasks::mask_colors))]
 pub fn cells_mask(grid: &[u8]) -> u32
     requires { Colored grid.now }
     ensures { result ≡ cells_mask grid.now }

@@ -22,6 +22,7 @@ fn check_grid(width: usize, height: usize, grid: &[u8]) -> Result<(), Refusal>
 }
 
 // How many words the puzzle takes.
+#[tactic(auto, using(crate::proofs::GridWords::grid_words_most, crate::proofs::GridWords::grid_words_length))]
 fn count_grid(width: usize, height: usize, grid: &[u8]) -> usize
     requires { Sized width height grid.now }
     ensures { result ≡ length (grid_words width height grid.now) }

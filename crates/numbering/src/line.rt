@@ -24,6 +24,7 @@ pub struct Line<'a> {
 }
 
 // Its first variable.
+#[tactic(auto, using(crate::proofs::SoundLines::of_first))]
 pub fn first_of(line: &[u32]) -> usize
     requires { line_size ≤ length line.now }
     ensures { (clue : List ℕ) → result ≡ (line_of line.now clue).first }
@@ -32,6 +33,7 @@ pub fn first_of(line: &[u32]) -> usize
 }
 
 // The positions of each of its blocks.
+#[tactic(auto, using(crate::proofs::SoundLines::of_positions))]
 pub fn positions_of(line: &[u32]) -> usize
     requires { line_size ≤ length line.now }
     ensures { (clue : List ℕ) → result ≡ (line_of line.now clue).positions }
@@ -57,6 +59,7 @@ impl<'a> Line<'a> {
     }
 
     // How many blocks it has.
+    #[tactic(auto, using(crate::proofs::SoundLines::of_many))]
     pub fn blocks(self) -> usize
         ensures many { result ≡ many (line_in self.entry) }
         ensures words { result ≡ length self.entry.clue.now / 2 }
@@ -65,6 +68,7 @@ impl<'a> Line<'a> {
     }
 
     // The first variable of block b.
+    #[tactic(auto, using(crate::proofs::SoundLines::sound_most, crate::proofs::SoundLines::sound_least))]
     pub fn block_first(self, b: usize) -> usize
         requires { b < many (line_in self) }
         ensures value { result ≡ first_of (line_in self.entry) b }
@@ -74,6 +78,7 @@ impl<'a> Line<'a> {
     }
 
     // Block b.
+    #[tactic(auto, using(crate::proofs::SoundLines::of_many, crate::proofs::SoundLines::sound_few))]
     pub fn run_at(self, b: usize) -> Run
         requires { b < length self.clue.now / 2 }
         ensures { run result ≡ at (line_in self.entry).runs b }

@@ -65,6 +65,7 @@ impl<'a> Reading<'a> {
     }
 
     // The masks of its cells.
+    #[tactic(auto, using(boards::proofs::Boards::masks_within))]
     pub fn masks(self) -> &'a [u32]
         ensures { result.now ≡ (puzzle_read self.entry).masks }
     {

@@ -37,6 +37,7 @@ fn block_once_clauses(line: Line, out: &mut [i32], at: usize) -> usize
 }
 
 // What a rule says of the line.
+#[tactic(auto, unfolding(crate::specs::Placement::ruled))]
 pub fn line_clauses(rule: Rule, line: Line, out: &mut [i32], at: usize) -> usize
     requires { at + length (clauses_words (ruled rule (line_in line))) ≤ length out.old }
     ensures { Wrote (clauses_words (ruled rule (line_in line.entry))) out.old at out.new result }
