@@ -14,7 +14,7 @@ use Rattle.refusals.proofs.Answering.{refusal_is, handed_up}
 use Rattle.sections.specs.Sections.{Clause}
 use Rattle.truth.specs.Truth.{Assignment, value, clause_true}
 use Rattle.truth.specs.Tested.{tested}
-use Rattle.truth.proofs.AllTested.{tested_fine}
+use Rattle.truth.proofs.AllTested.{tested_refused, tested_fine}
 use Rattle.puzzles.specs.Puzzle.{Puzzle, width, height}
 use Rattle.puzzles.specs.Checks.{puzzle}
 use Rattle.boards.specs.declared.board.Board.{Board}
@@ -24,17 +24,6 @@ use Rattle.cells.specs.Given.{Given}
 use Rattle.cells.proofs.BoardCells.{given_shows}
 use Rattle.counts.specs.Families.{clauses}
 use Rattle.checker.specs.Models.{value_checks, clause_checks, cell_checks, model_checks}
-
--- tests that refuse say 15 at the first false clause, as the checks do
-module _ (β : Assignment) (m q : ℕ) where
-  stopped : (b : Bool) (p : ℕ) (u : Checks) (v : Verdict ℕ) → (refused m q ≡ v → refused m q ≡ u) → refused m q ≡ refuse b 15 p v → refused m q ≡ refuse b 15 p u
-  stopped true p u v h e = let k : m ≡ 15 = cc in let l : q ≡ p = cc in rw (k, l)
-  stopped false p u v h e = h e
-
-  tested_refused : (p : ℕ) (cs : List Clause) → refused m q ≡ tested β p cs → refused m q ≡ first_off (λ c. not (clause_true β c)) 15 p cs
-  unfolding tested first_off
-  tested_refused p [] e = let z : ◌≡◌ {A = ℕ} 0 1 = cc in absurd (omega arith)
-  tested_refused p (c ∷ cs) e = stopped (not (clause_true β c)) p _ _ (tested_refused (p + 1) cs) e
 
 module _ {ws table : List ℕ} {board : Board} {colors : List ℕ} (G : Given ws table board colors) where
   abbrev z : Puzzle
@@ -91,7 +80,7 @@ module _ {ws table : List ℕ} {board : Board} {colors : List ℕ} (G : Given ws
         -- 15
         pub clauses_refused : passed ≡ value_checks model → refusal why ≡ tested (value model) 0 (clauses z) → refusal why ≡ model_checks z model
         clauses_refused e f =
-            let g : refusal why ≡ clause_checks (value model) (clauses z) = refusal_is why ∙ tested_refused (value model) _ _ 0 (clauses z) (sym (refusal_is why) ∙ f) in
+            let g : refusal why ≡ clause_checks (value model) (clauses z) = refusal_is why ∙ tested_refused (value model) 0 (clauses z) (sym (refusal_is why) ∙ f) in
             handed_up why g (cell_checks (value model) board.first (board.width * board.height) (length colors)) ∙ rw (own_length, ← e)
 
       -- 16

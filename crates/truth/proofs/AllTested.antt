@@ -16,14 +16,18 @@ module _ (β : Assignment) where
   abbrev Checked : ℕ → List Clause → Checks
   Checked p cs = first_off (λ c. not (clause_true β c)) 15 p cs
 
-  same : {q : ℕ} (b : Bool) (p : ℕ) (u : Checks) (v : Verdict ℕ) → (refused 15 q ≡ v → refused 15 q ≡ u) → refused 15 q ≡ refuse b 15 p v → refused 15 q ≡ refuse b 15 p u
-  same {q} true p u v h e = let s : q ≡ p = cc in rw s
-  same false p u v h e = h e
+  module _ {m q : ℕ} where
+    same : (b : Bool) (p : ℕ) (u : Checks) (v : Verdict ℕ) → (refused m q ≡ v → refused m q ≡ u) → refused m q ≡ refuse b 15 p v → refused m q ≡ refuse b 15 p u
+    same true p u v h e = let k : m ≡ 15 = cc in let s : q ≡ p = cc in rw (k, s)
+    same false p u v h e = h e
+
+    pub tested_refused : (p : ℕ) (cs : List Clause) → refused m q ≡ tested β p cs → refused m q ≡ Checked p cs
+    unfolding tested first_off
+    tested_refused p [] e = let z : ◌≡◌ {A = ℕ} 0 1 = cc in absurd (omega arith)
+    tested_refused p (c ∷ cs) e = same (not (clause_true β c)) p _ _ (tested_refused (p + 1) cs) e
 
   pub tested_false : (p : ℕ) (cs : List Clause) {q : ℕ} → refused 15 q ≡ tested β p cs → refused 15 q ≡ Checked p cs
-  unfolding tested first_off
-  tested_false p [] e = let z : ◌≡◌ {A = ℕ} 0 1 = cc in absurd (omega arith)
-  tested_false p (c ∷ cs) e = same (not (clause_true β c)) p _ _ (tested_false (p + 1) cs) e
+  tested_false p cs e = tested_refused p cs e
 
   pub tested_fine : (p : ℕ) (cs : List Clause) {q : ℕ} → accepted q ≡ tested β p cs → passed ≡ Checked p cs
   unfolding tested first_off
