@@ -6,11 +6,10 @@ use Prim.Native.Nat.{ℕ, ◌+◌, ◌-◌, ◌≤◌, ◌<◌}
 use native.Mathlib.Omega.{arith}
 use lib.Bits.{bit_and, bit_or}
 use lib.Dec.{eqb}
-use lib.ListN.{length, drop, get_or, drop_of_length-le}
+use lib.ListN.{drop, get_or, drop_of_length-le}
 use borrow.Author.Tests.{eq-eqb, ne_eqb}
 use Rattle.lists.proofs.Dropping.{drop_one}
 use Rattle.bits.specs.Bits.{bit, with_bit, solved}
-use Rattle.lines.specs.Arrangement.{block_at}
 use Rattle.lines.specs.Clue.{words, blocks}
 use Rattle.lines.proofs.ClueWords.{NextBlock, blocks_words}
 use Rattle.puzzles.specs.Puzzle.{Puzzle, width, height, clue_at}

@@ -10,7 +10,6 @@ use Rattle.lists.specs.Each.{each}
 use Rattle.lists.specs.Wrote.{Wrote}
 use Rattle.lists.proofs.Eaches.{each_length}
 use Rattle.lists.proofs.Emitting.{Emitting, emit_room}
-use Rattle.lines.specs.Arrangement.{block_at}
 use Rattle.lines.specs.Clue.{Run, end, blocks, gap, packed_from, packed, last_end, min_space, positions, of_color, range}
 use Rattle.lines.specs.Calls.{ranges_words}
 use Rattle.ranges.specs.Spanned.{spanned}
