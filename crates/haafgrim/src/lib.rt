@@ -72,7 +72,10 @@ pub fn haafgrim_transpose(
 ) -> u32
     ensures { Transpose width height grid.now out.old result place.new out.new }
 {
-    tell(transposing::transpose::transpose(width, height, grid, out), place)
+    tell(
+        transposing::transpose::transpose(width, height, grid, out),
+        place,
+    )
 }
 
 pub fn haafgrim_clauses(puzzle: &[u32], out: &mut [i32], place: &mut usize) -> u32
