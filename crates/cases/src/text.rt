@@ -1,21 +1,18 @@
 // Numbers of a text.
-ghost use Rattle.std.specs.Prelude.{◌≤◌, IfOk, vec_len};
+ghost use Rattle.std.specs.Prelude.{◌≤◌, length};
 
-use std::alloc::{AllocError, Global};
-
-// Room for one more number than a probe list may have, behind those of a puzzle.
-const MOST: usize = 1048832;
-
-// The numbers of a line's words, as many as there is room for.
-pub fn numbers(alloc: Global, line: &[u8]) -> Result<Vec<u32>, AllocError>
-    ensures { IfOk result (λ v. vec_len v ≤ 1048832) }
+// The numbers of a line's words into out, as many as it has room for; answers how many.
+pub fn numbers(line: &[u8], out: &mut [u32]) -> usize
+    ensures { result ≤ length out.old }
 {
-    let mut all = Vec::new(alloc);
+    let mut at = 0usize;
     for word in line.split_inclusive(|byte| *byte == b' ') {
         let (n, times) = number_and_times(word);
-        all.resize(all.len().saturating_add(times as usize).min(MOST), n)?;
+        let to = at.saturating_add(times as usize).min(out.len());
+        out[at..to].fill(n);
+        at = to;
     }
-    Ok(all)
+    at
 }
 
 // A word is a number, or `N*M` for M times the number N.
@@ -59,8 +56,11 @@ mod tests {
 
     #[test]
     fn numbers_of_words(rt: HostRuntime) -> Result<(), Fail> {
-        let all = numbers(rt.alloc(), b"3 -1 7*2  x4294967296")?;
-        assert_eq!(rt; &all[..], &[3, 4294967295, 7, 7, 0, 429496729][..]);
+        let mut all = [9; 7];
+        assert_eq!(rt; numbers(b"3 -1 7*2  x4294967296", &mut all), 6);
+        assert_eq!(rt; &all[..], &[3, 4294967295, 7, 7, 0, 429496729, 9][..]);
+        assert_eq!(rt; numbers(b"1 2*4294967295 3", &mut all), 7);
+        assert_eq!(rt; &all[..], &[1, 2, 2, 2, 2, 2, 2][..]);
         Ok(())
     }
 }

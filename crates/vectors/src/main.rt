@@ -16,6 +16,9 @@ use streams::read_full;
 // Room for a megabyte of cases.
 const ROOM: usize = 1048576;
 
+// Room for one more number than a probe list may have, behind those of a puzzle.
+const NUMBERS: usize = 1048832;
+
 fn main(rt: HostRuntime) -> io::Result<()> {
     let mut input = vec![in rt.alloc(); 0; ROOM]?;
     let n = read_full(&mut rt.reader(), &mut input)?;
@@ -41,8 +44,9 @@ fn answer<W: Write>(writer: &mut W, alloc: Global, line: &[u8]) -> io::Result<()
     let Some(name) = line.iter().position(|byte| *byte == b' ') else {
         return Ok(());
     };
-    let all = numbers(alloc, &line[name + 1..])?;
-    let [room, args @ ..] = &all[..] else {
+    let mut lent = vec![in alloc; 0; NUMBERS]?;
+    let n = numbers(&line[name + 1..], &mut lent);
+    let [room, args @ ..] = &lent[..n] else {
         return Ok(());
     };
     let room = *room as usize;

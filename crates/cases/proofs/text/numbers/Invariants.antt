@@ -1,5 +1,5 @@
-use Rattle.std.proofs.Common.{◌≤◌, vec_len}
+use Rattle.std.proofs.Common.{◌≤◌, length}
 use Rattle.cases.proofs.text.numbers.Given as goal
 
 abbrev pub invariant-loop-word : goal.invariant-loop-word
-invariant-loop-word l = vec_len l.all ≤ 1048832
+invariant-loop-word l = l.at ≤ length l.out
