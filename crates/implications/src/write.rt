@@ -7,7 +7,7 @@ ghost use Rattle.implications.specs.Held.{clauses_in};
 
 use crate::claims::claims;
 use crate::painted::{Painted, Probed};
-use implied::impact::put_impact;
+use implied::impact::{Premise, put_impact};
 use implied::premise::put_premise;
 use lists::wide;
 use literals::count_word;
@@ -15,15 +15,15 @@ use probes::parts::Parts;
 
 // The impacts of a probe, three words each.
 fn put_impacts(
-    premise: &[i32],
+    premise: Premise,
     impacts: &[u32],
     painted: Painted,
     out: &mut [i32],
     at: usize,
 ) -> usize
-    requires all_on_board { AllOnBoard painted.shown.board impacts.now × (length premise.now < 2147483647) }
-    requires impacts_in_bounds { at + length (clauses_words (of_impacts painted.shown.board painted.palette.now premise.now impacts.now)) ≤ length out.old }
-    ensures { Wrote (clauses_words (of_impacts painted.entry.shown.board painted.entry.palette.now premise.now impacts.now)) out.old at out.new result }
+    requires all_on_board { AllOnBoard painted.shown.board impacts.now }
+    requires impacts_in_bounds { at + length (clauses_words (of_impacts painted.shown.board painted.palette.now premise.literals.now impacts.now)) ≤ length out.old }
+    ensures { Wrote (clauses_words (of_impacts painted.entry.shown.board painted.entry.palette.now premise.entry.literals.now impacts.now)) out.old at out.new result }
 {
     let mut to = at;
     for &[x, y, color] in claims(impacts) {
@@ -39,10 +39,13 @@ fn generate_implications(part: &[u32], painted: Painted, out: &mut [i32], at: us
     requires part_in_bounds { at + length (clauses_words (of_probe painted.shown.board painted.palette.now part.now)) ≤ length out.old }
     ensures { Wrote (clauses_words (of_probe painted.entry.shown.board painted.entry.palette.now part.now)) out.old at out.new result }
 {
-    let mut premise = [0i32; 31];
+    let mut literals = [0i32; 31];
     let v = painted.shown.cell_first(wide(part[0]), wide(part[1]));
-    let n = put_premise(part[2], painted.palette, v, &mut premise);
-    put_impacts(&premise[..n], &part[4..], painted, out, at)
+    let n = put_premise(part[2], painted.palette, v, &mut literals);
+    let premise = Premise {
+        literals: &literals[..n],
+    };
+    put_impacts(premise, &part[4..], painted, out, at)
 }
 
 // The section, after the number of its clauses.
