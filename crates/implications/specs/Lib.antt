@@ -1,2 +1,3 @@
 pub mod Sizes
 pub mod Meaning
+pub mod Held

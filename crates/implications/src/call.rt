@@ -14,8 +14,10 @@ ghost use Rattle.implied.specs.Implications.{implications};
 ghost use Rattle.implied.specs.ByWords.{of_probes};
 
 use crate::count::count_probes;
+use crate::painted::{Painted, Probed};
 use crate::write::write_probes;
 use boards::board::{Board, read_puzzle};
+use cells::given::Shown;
 use numbering::palette;
 use probes::read::check_probes;
 use refusals::Refusal;
@@ -29,12 +31,21 @@ fn write_section(board: Board, probe: &[u32], out: &mut [i32]) -> Result<usize, 
 {
     let mut colors = [0u32; 31];
     let k = palette(board.colors, &mut colors);
-    let size = count_probes(board, k, probe);
+    let shown = Shown { board, hues: k };
+    let painted = Painted {
+        shown,
+        palette: &colors[..k],
+    };
+    let probed = Probed {
+        painted,
+        words: probe,
+    };
+    let size = count_probes(probed);
     let need = 1 + size.words;
     if out.len() < need {
         return Err(Refusal::OutputTooShort(need));
     }
-    Ok(write_probes(probe, board, &colors[..k], size.clauses, out))
+    Ok(write_probes(probed, size.clauses, out))
 }
 
 // Once the puzzle is read: the probes' refusals, and what follows.

@@ -1,14 +1,14 @@
 // How many clauses and words the section has.
 ghost use Rattle.std.specs.Prelude.{◌≡◌, true, ◌≤◌, ◌<◌, length, get_or};
-ghost use Rattle.refusals.specs.Verdict.{passed};
 ghost use Rattle.numbering.specs.Variables.{palette};
-ghost use Rattle.probes.specs.Probes.{is_color, checks_on};
-ghost use Rattle.implied.specs.ByWords.{of_probe, of_probes};
+ghost use Rattle.probes.specs.Probes.{is_color};
+ghost use Rattle.implied.specs.ByWords.{of_probe};
 ghost use Rattle.implications.specs.Sizes.{impact_count, impacts_count, ExtentIs};
+ghost use Rattle.implications.specs.Held.{clauses_in};
 
 use crate::claims::claims;
+use crate::painted::{Painted, Probed};
 use bits::mask::has;
-use boards::board::Board;
 use probes::parts::Parts;
 
 // Clauses, and their words. One type with that of dimacs would not say the unit.
@@ -18,42 +18,41 @@ pub struct Extent {
     pub words: usize,
 }
 
-// Of an impact, where there are k colours.
-fn impact_count(colors: u32, k: usize, color: u32) -> usize
-    requires { k ≡ length (palette colors) }
-    ensures { result ≡ impact_count colors color }
+// Of an impact.
+fn impact_count(painted: Painted, color: u32) -> usize
+    ensures { result ≡ impact_count painted.entry.shown.board.colors color }
 {
     if color == 0 {
-        return k;
+        return painted.palette.len();
     }
-    if has(colors, color) {
+    if has(painted.shown.board.colors, color) {
         return 1;
     }
     0
 }
 
-fn count_impacts(colors: u32, k: usize, impacts: &[u32]) -> usize
-    requires { (k ≡ length (palette colors)) × (length impacts.now ≤ 1048576) }
-    ensures { result ≡ impacts_count colors impacts.now }
+fn count_impacts(painted: Painted, impacts: &[u32]) -> usize
+    requires { length impacts.now ≤ 1048576 }
+    ensures { result ≡ impacts_count painted.entry.shown.board.colors impacts.now }
 {
     let mut total = 0;
     for &[_, _, color] in claims(impacts) {
-        total += impact_count(colors, k, color);
+        total += impact_count(painted, color);
     }
     total
 }
 
 // Of a probe's words: each clause has a count, the literals of the premise, and one literal more.
-fn count_probe(board: Board, k: usize, part: &[u32]) -> Extent
-    requires k_value { (k ≡ length (palette board.colors)) × (4 ≤ length part.now) × (length part.now ≤ 1048576) }
-    requires part_value { is_color board.colors (get_or part.now 2 0) ≡ true }
-    ensures { ExtentIs (of_probe board (palette board.colors) part.now) result }
+fn count_probe(painted: Painted, part: &[u32]) -> Extent
+    requires part_length { (4 ≤ length part.now) × (length part.now ≤ 1048576) }
+    requires part_value { is_color painted.shown.board.colors (get_or part.now 2 0) ≡ true }
+    ensures { ExtentIs (of_probe painted.entry.shown.board (palette painted.entry.shown.board.colors) part.now) result }
 {
-    let clauses = count_impacts(board.colors, k, &part[4..]);
+    let clauses = count_impacts(painted, &part[4..]);
     if part[2] == 0 {
         return Extent {
             clauses,
-            words: clauses * (k + 2),
+            words: clauses * (painted.palette.len() + 2),
         };
     }
     Extent {
@@ -63,16 +62,14 @@ fn count_probe(board: Board, k: usize, part: &[u32]) -> Extent
 }
 
 // Of accepted words.
-pub fn count_probes(board: Board, k: usize, probe: &[u32]) -> Extent
-    requires passed_value { passed ≡ checks_on board.width board.height board.colors probe.now }
-    requires k_value { k ≡ length (palette board.colors) }
-    ensures extent_is { ExtentIs (of_probes board (palette board.colors) probe.now) result }
+pub fn count_probes(probed: Probed) -> Extent
+    ensures extent_is { ExtentIs (clauses_in probed.entry) result }
     ensures clauses_bound { (result.clauses < 2147483648) × (result.words < 2147483648) }
 {
     let mut clauses = 0;
     let mut words = 0;
-    for part in Parts::of(probe) {
-        let size = count_probe(board, k, part);
+    for part in Parts::of(probed.words) {
+        let size = count_probe(probed.painted, part);
         clauses += size.clauses;
         words += size.words;
     }

@@ -4,4 +4,5 @@
 pub mod call;
 mod claims;
 mod count;
+mod painted;
 mod write;

@@ -1,43 +1,29 @@
 // The clauses of probes, by the words of accepted probes.
 ghost use Rattle.std.specs.Prelude.{◌≡◌, ◌+◌, ◌≤◌, ◌<◌, length};
 ghost use Rattle.lists.specs.Wrote.{Wrote};
-ghost use Rattle.refusals.specs.Verdict.{passed};
 ghost use Rattle.sections.specs.Sections.{clauses_words, section_words};
-ghost use Rattle.puzzles.specs.Puzzle.{Puzzle};
-ghost use Rattle.numbering.specs.Variables as N;
-ghost use Rattle.cells.specs.Given.{Shows};
-ghost use Rattle.probes.specs.Probes.{checks_on};
-ghost use Rattle.implied.specs.ByWords.{AllOnBoard, ProbeOnBoard, of_impacts, of_probe, of_probes};
+ghost use Rattle.implied.specs.ByWords.{AllOnBoard, ProbeOnBoard, of_impacts, of_probe};
+ghost use Rattle.implications.specs.Held.{clauses_in};
 
 use crate::claims::claims;
-use boards::board::Board;
-use cells::given::Shown;
-use implied::impact::put_impact;
+use crate::painted::{Painted, Probed};
+use implied::impact::{Premise, put_impact};
 use implied::premise::put_premise;
 use lists::wide;
 use literals::count_word;
 use probes::parts::Parts;
 
-// The board of some accepted puzzle, and colours as many as that has.
-#[derive(Clone, Copy)]
-pub struct Painted<'a> {
-    pub shown: Shown,
-    pub palette: &'a [u32],
-    pub ghost hues: { shown.hues ≡ length palette.now },
-    pub ghost few: { length palette.now ≤ 31 },
-}
-
 // The impacts of a probe, three words each.
 fn put_impacts(
-    premise: &[i32],
+    premise: Premise,
     impacts: &[u32],
     painted: Painted,
     out: &mut [i32],
     at: usize,
 ) -> usize
-    requires all_on_board { AllOnBoard painted.shown.board impacts.now × (length premise.now < 2147483647) }
-    requires impacts_in_bounds { at + length (clauses_words (of_impacts painted.shown.board painted.palette.now premise.now impacts.now)) ≤ length out.old }
-    ensures { Wrote (clauses_words (of_impacts painted.entry.shown.board painted.entry.palette.now premise.now impacts.now)) out.old at out.new result }
+    requires all_on_board { AllOnBoard painted.shown.board impacts.now }
+    requires impacts_in_bounds { at + length (clauses_words (of_impacts painted.shown.board painted.palette.now premise.literals.now impacts.now)) ≤ length out.old }
+    ensures { Wrote (clauses_words (of_impacts painted.entry.shown.board painted.entry.palette.now premise.entry.literals.now impacts.now)) out.old at out.new result }
 {
     let mut to = at;
     for &[x, y, color] in claims(impacts) {
@@ -53,35 +39,25 @@ fn generate_implications(part: &[u32], painted: Painted, out: &mut [i32], at: us
     requires part_in_bounds { at + length (clauses_words (of_probe painted.shown.board painted.palette.now part.now)) ≤ length out.old }
     ensures { Wrote (clauses_words (of_probe painted.entry.shown.board painted.entry.palette.now part.now)) out.old at out.new result }
 {
-    let mut premise = [0i32; 31];
+    let mut literals = [0i32; 31];
     let v = painted.shown.cell_first(wide(part[0]), wide(part[1]));
-    let n = put_premise(part[2], painted.palette, v, &mut premise);
-    put_impacts(&premise[..n], &part[4..], painted, out, at)
+    let n = put_premise(part[2], painted.palette, v, &mut literals);
+    let premise = Premise {
+        literals: &literals[..n],
+    };
+    put_impacts(premise, &part[4..], painted, out, at)
 }
 
 // The section, after the number of its clauses.
-pub fn write_probes(
-    probe: &[u32],
-    board: Board,
-    palette: &[u32],
-    count: usize,
-    out: &mut [i32],
-) -> usize
-    requires palette_value { ((z : Puzzle) × Shows board (length palette.now) z) × (palette.now ≡ N.palette board.colors) }
-    requires passed_value { passed ≡ checks_on board.width board.height board.colors probe.now }
-    requires count_value { (count ≡ length (of_probes board palette.now probe.now)) × (count < 2147483648) }
-    requires probe_in_bounds { length (section_words (of_probes board palette.now probe.now)) ≤ length out.old }
-    ensures { Wrote (section_words (of_probes board palette.now probe.now)) out.old 0 out.new result }
+pub fn write_probes(probed: Probed, count: usize, out: &mut [i32]) -> usize
+    requires count_value { (count ≡ length (clauses_in probed)) × (count < 2147483648) }
+    requires probe_in_bounds { length (section_words (clauses_in probed)) ≤ length out.old }
+    ensures { Wrote (section_words (clauses_in probed.entry)) out.old 0 out.new result }
 {
-    let shown = Shown {
-        board,
-        hues: palette.len(),
-    };
-    let painted = Painted { shown, palette };
     out[0] = count_word(count);
     let mut to = 1;
-    for part in Parts::of(probe) {
-        to = generate_implications(part, painted, out, to);
+    for part in Parts::of(probed.words) {
+        to = generate_implications(part, probed.painted, out, to);
     }
     to
 }

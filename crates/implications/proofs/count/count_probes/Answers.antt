@@ -7,8 +7,8 @@ use Rattle.implications.proofs.Counting.{Counting, counting_first, counting_next
 use Rattle.implications.proofs.count.count_probes.Goals as goal
 use Rattle.implications.proofs.count.count_probes.Goals.{Start, After-count_probe-size}
 
-taken : (c : Start) → Accepted c.args.board.width c.args.board.height c.args.board.colors c.args.probe.now
-taken c = accepted_probes c.args.board.width c.args.board.height c.args.board.colors c.args.probe.now c.requires.passed_value
+taken : (c : Start) → let b = c.args.probed.painted.shown.board in Accepted b.width b.height b.colors c.args.probed.words.now
+taken c = let b = c.args.probed.painted.shown.board in accepted_probes b.width b.height b.colors _ c.args.probed.accepted
 
 pub of-part-items-requires : goal.of-part-items-requires
 of-part-items-requires c = formed (taken (goal.at.of-part-items-requires c).Start)
@@ -16,13 +16,13 @@ of-part-items-requires c = formed (taken (goal.at.of-part-items-requires c).Star
 pub loop-part-init : goal.loop-part-init
 loop-part-init c = rw (c.into_iter-part-iterator.ensures.into_iter_gives, c.of-part-items.ensures) (counting_first (few_first (taken (goal.at.loop-part-init c).Start)))
 
-pub count_probe-size-requires-clause-k_value : goal.count_probe-size-requires-clause-k_value
-count_probe-size-requires-clause-k_value c = let l = few_long c.loop-part.invariant.few c.in-Some.ensures.steps in (c.requires.k_value, l.0, l.1)
+pub count_probe-size-requires-clause-part_length : goal.count_probe-size-requires-clause-part_length
+count_probe-size-requires-clause-part_length c = few_long c.loop-part.invariant.few c.in-Some.ensures.steps
 
 pub count_probe-size-requires-clause-part_value : goal.count_probe-size-requires-clause-part_value
 count_probe-size-requires-clause-part_value c = few_known c.loop-part.invariant.few c.in-Some.ensures.steps
 
-next : (c : After-count_probe-size) → Counting c.args.board (parts_in c.args.probe.now) (c.loop-part.clauses + c.count_probe-size.result.clauses) (c.loop-part.words + c.count_probe-size.result.words) c.next.new.self
+next : (c : After-count_probe-size) → Counting c.args.probed.painted.shown.board (parts_in c.args.probed.words.now) (c.loop-part.clauses + c.count_probe-size.result.clauses) (c.loop-part.words + c.count_probe-size.result.words) c.next.new.self
 next c = counting_next c.loop-part.invariant c.in-Some.ensures.steps c.count_probe-size.ensures
 
 pub overflow_add-clauses : goal.overflow_add-clauses
@@ -35,7 +35,7 @@ pub loop-part-preserved : goal.loop-part-preserved
 loop-part-preserved c = next (goal.at.loop-part-preserved c).After-count_probe-size
 
 pub returns-clause-extent_is : goal.returns-clause-extent_is
-returns-clause-extent_is c = rw (probes_parts (taken (goal.at.returns-clause-extent_is c).Start)) (counting_done c.loop-part.invariant c.in-None.ensures.steps.0)
+returns-clause-extent_is c = rw (c.args.probed.painted.palette_is, probes_parts (taken (goal.at.returns-clause-extent_is c).Start)) (counting_done c.loop-part.invariant c.in-None.ensures.steps.0)
 
 pub returns-clause-clauses_bound : goal.returns-clause-clauses_bound
 returns-clause-clauses_bound c = counted_most c.loop-part.invariant (omega arith) (few_first (taken (goal.at.returns-clause-clauses_bound c).Start))

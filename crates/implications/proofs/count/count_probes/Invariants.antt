@@ -3,4 +3,4 @@ use Rattle.implications.proofs.Counting.{Counting}
 use Rattle.implications.proofs.count.count_probes.Given as goal
 
 abbrev pub invariant-loop-part : goal.invariant-loop-part
-invariant-loop-part l = Counting l.board (parts_in l.probe) l.clauses l.words l.part-iterator
+invariant-loop-part l = Counting l.fn.probed.painted.shown.board (parts_in l.fn.probed.words.now) l.clauses l.words l.part-iterator

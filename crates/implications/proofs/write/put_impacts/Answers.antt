@@ -20,7 +20,7 @@ color_is : (c : After-cell_first-v) → get_or (get_or c.claims-x-items.result.n
 color_is c = ap (λ (l : List ℕ). get_or l 2 0) (c.claims-x-items.ensures.claims c.loop-x.x-index (omega arith))
 
 pub loop-x-init : goal.loop-x-init
-loop-x-init c = impacts_first _ c.args.painted.palette.now c.args.premise.now c.args.impacts.now _ _ c.requires.impacts_in_bounds
+loop-x-init c = impacts_first _ c.args.painted.palette.now c.args.premise.literals.now c.args.impacts.now _ _ c.requires.impacts_in_bounds
 
 pub put_impact-to-requires-clause-color_in_bounds : goal.put_impact-to-requires-clause-color_in_bounds
 put_impact-to-requires-clause-color_in_bounds c =
@@ -33,4 +33,4 @@ loop-x-preserved c =
     emit_next c.loop-x.invariant (omega arith) (rw (first_is k, color_is k) at c.put_impact-to.ensures)
 
 pub returns : goal.returns
-returns c = impacts_done c.args.painted.shown.board c.args.painted.palette.now c.args.premise.now c.args.impacts.now c.loop-x.invariant (omega arith)
+returns c = impacts_done c.args.painted.shown.board c.args.painted.palette.now c.args.premise.literals.now c.args.impacts.now c.loop-x.invariant (omega arith)

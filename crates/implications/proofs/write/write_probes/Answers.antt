@@ -1,18 +1,15 @@
 use mathlib.Core.Path.{refl, ap, ◌∙◌}
-use native.Mathlib.Omega.{arith}
 use lib.IntN.{pos}
-use lib.ListN.{length}
 use Rattle.literals.proofs.Words.{word_is}
 use Rattle.sections.proofs.Section.{count_room}
-use Rattle.numbering.proofs.Palettes.{palette_most}
 use Rattle.probes.proofs.AcceptedProbes.{Accepted, accepted_probes}
 use Rattle.implications.proofs.ProbePlaces.{formed, few_on_board}
 use Rattle.implications.proofs.ProbeClauses.{part_room, section_first, section_next, section_done}
 use Rattle.implications.proofs.write.write_probes.Goals as goal
 use Rattle.implications.proofs.write.write_probes.Goals.{Start}
 
-taken : (c : Start) → Accepted c.args.board.width c.args.board.height c.args.board.colors c.args.probe.now
-taken c = accepted_probes c.args.board.width c.args.board.height c.args.board.colors c.args.probe.now c.requires.passed_value
+taken : (c : Start) → let b = c.args.probed.painted.shown.board in Accepted b.width b.height b.colors c.args.probed.words.now
+taken c = let b = c.args.probed.painted.shown.board in accepted_probes b.width b.height b.colors _ c.args.probed.accepted
 
 pub bounds-out-0 : goal.bounds-out-0
 bounds-out-0 c = count_room _ _ c.requires.probe_in_bounds
@@ -23,11 +20,8 @@ of-part-items-requires c = formed (taken (goal.at.of-part-items-requires c).Star
 pub loop-part-init : goal.loop-part-init
 loop-part-init c = rw (c.into_iter-part-iterator.ensures.into_iter_gives, c.of-part-items.ensures) (section_first (taken (goal.at.loop-part-init c).Start) _ c.requires.probe_in_bounds _)
 
-pub invariant_of-painted : goal.invariant_of-painted
-invariant_of-painted c = record { hues = refl; few = omega (arith, palette_most c.args.board.colors, ap length c.requires.palette_value.1) }
-
 pub generate_implications-to-requires-clause-probe_on_board : goal.generate_implications-to-requires-clause-probe_on_board
-generate_implications-to-requires-clause-probe_on_board c = few_on_board c.loop-part.invariant.few c.in-Some.ensures.steps c.args.board refl refl
+generate_implications-to-requires-clause-probe_on_board c = few_on_board c.loop-part.invariant.few c.in-Some.ensures.steps c.args.probed.painted.shown.board refl refl
 
 pub generate_implications-to-requires-clause-part_in_bounds : goal.generate_implications-to-requires-clause-part_in_bounds
 generate_implications-to-requires-clause-part_in_bounds c = part_room c.loop-part.invariant c.in-Some.ensures.steps

@@ -7,4 +7,4 @@ use Rattle.implied.specs.Implications.{implied}
 use Rattle.implied.proofs.impact.put_impact.Given as goal
 
 abbrev pub invariant-loop-r : goal.invariant-loop-r
-invariant-loop-r s = Emitting (length s.palette) (λ k. clauses_words (map (λ l. s.premise ++ (l ∷ [])) (implied s.color (get_or s.palette k 0) (s.v + k)))) s.initial.out s.at s.out s.to s.r
+invariant-loop-r s = Emitting (length s.palette) (λ k. clauses_words (map (λ l. s.premise.literals.now ++ (l ∷ [])) (implied s.color (get_or s.palette k 0) (s.v + k)))) s.initial.out s.at s.out s.to s.r
