@@ -33,7 +33,7 @@ fn signed(word: &[u8]) -> u32 {
     }
 }
 
-// The number that a word's digits are; other bytes are passed over.
+// The number that a word's digits are; other bytes are passed over, where `parse` would refuse them.
 fn number(word: &[u8]) -> u32 {
     word.iter().fold(0, |n, byte| shifted(n, *byte))
 }

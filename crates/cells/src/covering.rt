@@ -20,6 +20,7 @@ fn covering_block(v: usize, p: usize, block: Run, t: usize, found: &mut [usize],
     requires t_in_bounds { at + length (covering_block v p (run block) t) ≤ length found.old }
     ensures { Wrote (covering_block v p (run block) t) found.old at found.new result }
 {
+    // `to` counts what was written, which not every turn does.
     let mut to = at;
     for i in 0..p {
         if behind(block, i, t) {

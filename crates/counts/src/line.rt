@@ -28,6 +28,7 @@ fn later_count(a: usize, line: Line) -> usize
 {
     let p = line.positions();
     let mut total = 0;
+    // From 0, as the law of sums counts.
     for k in 0..line.blocks() - (a + 1) {
         total += pair_count(p, line.distance_of(a, a + 1 + k));
     }

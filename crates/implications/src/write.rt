@@ -33,7 +33,7 @@ fn put_impacts(
     to
 }
 
-// A probe's words. Its premise, which all its clauses begin with, is made once.
+// A probe's words, four at least: a pattern for them would have a branch that never runs. Its premise, which all its clauses begin with, is made once.
 fn generate_implications(part: &[u32], painted: Painted, out: &mut [i32], at: usize) -> usize
     requires probe_on_board { ProbeOnBoard painted.shown.board part.now }
     requires part_in_bounds { at + length (clauses_words (of_probe painted.shown.board painted.palette.now part.now)) ≤ length out.old }

@@ -15,6 +15,7 @@ fn put_negated(model: &[u8], v: usize, n: usize, out: &mut [i32], at: usize) -> 
     requires n_in_bounds { at + length (negated (value model.now) v n) ≤ length out.old }
     ensures { Wrote (negated (value model.now) v n) out.old at out.new result }
 {
+    // `to` counts what was written, which not every turn does.
     let mut to = at;
     for k in 0..n {
         if !on(model, v + k) {

@@ -15,6 +15,7 @@ pub fn palette(colors: u32, out: &mut [u32]) -> usize
     requires { 31 ≤ length out.old }
     ensures { Wrote (N.palette colors) out.old 0 out.new result }
 {
+    // `at` counts what was written, which not every turn does.
     let mut at = 0;
     for k in 0..31 {
         if !has(colors, k + 1) {

@@ -16,6 +16,7 @@ pub fn check_sections(part: &[u32], at: usize) -> Result<usize, Refusal>
     requires { at + length part.now < 2 ^ 63 }
     ensures { told result ≡ and_then (walked 11 (read_puzzle at part.now)) (accepted (at + rows_at (puzzle_of (read_puzzle at part.now)))) }
 {
+    // `let .. else`, and not `?`: each of the three hands its refusal up as it came.
     let columns = read_lines(part, at);
     let Ok(rows) = columns else {
         return columns;
