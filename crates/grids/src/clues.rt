@@ -31,8 +31,8 @@ fn count_begun(row: &[u8], above: &[u8]) -> usize
     ensures { result ≡ sum (length row.now) (λ x. begins (get_or above.now x 0) (get_or row.now x 0)) }
 {
     let mut count: u8 = 0;
-    for (x, &color) in row.iter().enumerate() {
-        count += run_begins(above[x], color);
+    for (&color, &over) in row.iter().zip(above) {
+        count += run_begins(over, color);
     }
     usize::from(count)
 }
