@@ -1,3 +1,4 @@
 pub mod Grid
 pub mod Sized
+pub mod OneProof
 pub mod Mask

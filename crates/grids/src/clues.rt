@@ -7,8 +7,9 @@ ghost use Rattle.lines.specs.Line.{runs};
 ghost use Rattle.runs.specs.Strided.{strided, Strided};
 ghost use Rattle.puzzles.specs.Puzzle.{clue_words, lines_words};
 ghost use Rattle.grids.specs.Grid.{row_clues, column_clues};
-ghost use Rattle.grids.specs.Sized.{Sized, Lined, Laid, laid_clues};
+ghost use Rattle.grids.specs.Sized.{Lined, Laid, laid_clues};
 
+use crate::grid::Grid;
 use runs::line::{count_words, put_runs, run_begins};
 
 // How many words a section of n lines takes: its count, and a count and the runs for each line.
@@ -30,22 +31,22 @@ fn count_begun(row: &[u8], above: &[u8]) -> usize
     ensures { result ≡ sum (length row.now) (λ x. begins (get_or above.now x 0) (get_or row.now x 0)) }
 {
     let mut count: u8 = 0;
-    for (x, &color) in row.iter().enumerate() {
-        count += run_begins(above[x], color);
+    for (&color, &over) in row.iter().zip(above) {
+        count += run_begins(over, color);
     }
-    count as usize
+    usize::from(count)
 }
 
 // How many words the section of the columns takes, row by row: two for each cell that begins a run of its column.
-pub fn count_columns(width: usize, height: usize, grid: &[u8]) -> usize
-    requires { Sized width height grid.now }
-    ensures { result ≡ length (lines_words (column_clues width height grid.now)) }
+pub fn count_columns(grid: Grid) -> usize
+    ensures { result ≡ length (lines_words (column_clues grid.entry.width grid.entry.height grid.entry.cells.now)) }
 {
+    let width = grid.width;
     let blank = [0u8; 64];
-    let mut count = count_begun(&grid[0..width], &blank);
-    for y in 1..height {
+    let mut count = count_begun(&grid.cells[0..width], &blank);
+    for y in 1..grid.height {
         let at = y * width;
-        count += count_begun(&grid[at..at + width], &grid[at - width..at]);
+        count += count_begun(&grid.cells[at..at + width], &grid.cells[at - width..at]);
     }
     1 + width + 2 * count
 }

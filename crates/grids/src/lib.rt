@@ -2,6 +2,7 @@
 #![tactic(auto)]
 
 mod clues;
+pub mod grid;
 mod masks;
 pub mod read;
 pub mod size;

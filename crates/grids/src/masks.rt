@@ -14,7 +14,7 @@ fn cell_colors(grid: &[u8]) -> u32
 {
     let mut mask = 1;
     for &color in grid {
-        mask = set(mask, color as u32);
+        mask = set(mask, u32::from(color));
     }
     mask
 }

@@ -2,34 +2,28 @@
 ghost use Rattle.std.specs.Prelude.{◌+◌, ◌≤◌, ◌<◌, length};
 ghost use Rattle.lists.specs.Wrote.{Wrote};
 ghost use Rattle.grids.specs.Grid.{column, transposed};
-ghost use Rattle.grids.specs.Sized.{Sized};
+
+use grids::grid::Grid;
 
 // Writes column x.
-fn put_column(
-    width: usize,
-    height: usize,
-    grid: &[u8],
-    x: usize,
-    out: &mut [u8],
-    at: usize,
-) -> usize
-    requires { Sized width height grid.now × (x < width) × (at + height ≤ length out.old) }
-    ensures { Wrote (column width height grid.now x) out.old at out.new result }
+fn put_column(grid: Grid, x: usize, out: &mut [u8], at: usize) -> usize
+    requires { (x < grid.width) × (at + grid.height ≤ length out.old) }
+    ensures { Wrote (column grid.entry.width grid.entry.height grid.entry.cells.now x) out.old at out.new result }
 {
-    for y in 0..height {
-        out[at + y] = grid[y * width + x];
+    for y in 0..grid.height {
+        out[at + y] = grid.cells[y * grid.width + x];
     }
-    at + height
+    at + grid.height
 }
 
 // Writes the columns.
-pub fn put_columns(width: usize, height: usize, grid: &[u8], out: &mut [u8]) -> usize
-    requires { Sized width height grid.now × (length grid.now ≤ length out.old) }
-    ensures { Wrote (transposed width height grid.now) out.old 0 out.new result }
+pub fn put_columns(grid: Grid, out: &mut [u8]) -> usize
+    requires { length grid.cells.now ≤ length out.old }
+    ensures { Wrote (transposed grid.entry.width grid.entry.height grid.entry.cells.now) out.old 0 out.new result }
 {
     let mut at = 0;
-    for x in 0..width {
-        at = put_column(width, height, grid, x, out, at);
+    for x in 0..grid.width {
+        at = put_column(grid, x, out, at);
     }
     at
 }

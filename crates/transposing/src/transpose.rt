@@ -3,6 +3,7 @@ ghost use Rattle.refusals.specs.Outcome.{Answers};
 ghost use Rattle.grids.specs.Grid.{transposed, size_checks};
 
 use crate::columns::put_columns;
+use grids::grid::Grid;
 use grids::size::check_size;
 use refusals::Refusal;
 
@@ -14,5 +15,10 @@ pub fn transpose(width: usize, height: usize, grid: &[u8], out: &mut [u8]) -> Re
     if out.len() < grid.len() {
         return Err(Refusal::OutputTooShort(grid.len()));
     }
-    Ok(put_columns(width, height, grid, out))
+    let sized = Grid {
+        width,
+        height,
+        cells: grid,
+    };
+    Ok(put_columns(sized, out))
 }

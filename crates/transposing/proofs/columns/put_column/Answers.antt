@@ -3,7 +3,7 @@ use Rattle.grids.specs.Grid.{column}
 use Rattle.transposing.proofs.columns.put_column.Goals as goal
 
 pub loop-y-init : goal.loop-y-init
-loop-y-init c = one_first _ _ _ _ c.requires.2
+loop-y-init c = one_first _ _ _ _ c.requires.1
 
 pub loop-y-preserved : goal.loop-y-preserved
 loop-y-preserved c = one_next c.loop-y.invariant c.loop-y-test.true

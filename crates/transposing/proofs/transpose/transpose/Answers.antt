@@ -9,10 +9,8 @@ returns-then-out-grid c =
     let e = c.in_ok-check_size.ensures in
     answers_short _ _ e (transposed_size (size_ok e)) c.if-out-grid.true
 
-pub put_columns-requires : goal.put_columns-requires
-put_columns-requires c =
-    let e = c.in_ok-check_size.ensures in
-    (size_ok e, c.if-out-grid.false)
+pub invariant_of-sized : goal.invariant_of-sized
+invariant_of-sized c = record { sized = size_ok c.in_ok-check_size.ensures }
 
 pub returns : goal.returns
 returns c =
