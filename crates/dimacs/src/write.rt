@@ -1,11 +1,11 @@
 // The text of accepted words.
 ghost use Rattle.std.specs.Prelude.{◌+◌, ◌≤◌, length};
 ghost use Rattle.lists.specs.Wrote.{Wrote};
-ghost use Rattle.formulas.specs.Clauses.{AreVariables, Formed, clauses_in};
+ghost use Rattle.formulas.specs.Clauses.{AreVariables, clauses_in};
 ghost use Rattle.dimacs.specs.Text.{literal_text, clause_text, clauses_text, header};
 
 use crate::digits::put_number;
-use formulas::clauses::Clauses;
+use formulas::clauses::{Clauses, Formula};
 use lists::{put_slice, wide};
 use literals::Literal;
 
@@ -35,12 +35,12 @@ fn put_clause(clause: &[i32], out: &mut [u8], at: usize) -> usize
     put_slice(b"0\n", out, to)
 }
 
-pub fn put_lines(words: &[i32], out: &mut [u8], at: usize) -> usize
-    requires { Formed words.now × (at + length (clauses_text (clauses_in words.now)) ≤ length out.old) }
-    ensures { Wrote (clauses_text (clauses_in words.now)) out.old at out.new result }
+pub fn put_lines(formula: Formula, out: &mut [u8], at: usize) -> usize
+    requires { at + length (clauses_text (clauses_in formula.words.now)) ≤ length out.old }
+    ensures { Wrote (clauses_text (clauses_in formula.entry.words.now)) out.old at out.new result }
 {
     let mut to = at;
-    for clause in Clauses::of(words) {
+    for clause in Clauses::of(formula) {
         to = put_clause(clause, out, to);
     }
     to
