@@ -4,7 +4,7 @@ ghost use Rattle.lists.specs.Wrote.{Wrote};
 ghost use Rattle.formulas.specs.Clauses.{AreVariables, clauses_in};
 ghost use Rattle.dimacs.specs.Text.{literal_text, clause_text, clauses_text, header};
 
-use crate::digits::put_number;
+use crate::digits::{put_line, put_number};
 use formulas::clauses::{Clauses, Formula};
 use lists::{put_slice, wide};
 use literals::Literal;
@@ -46,14 +46,10 @@ pub fn put_lines(formula: Formula, out: &mut [u8], at: usize) -> usize
     to
 }
 
-#[tactic(auto, using(crate::proofs::HeaderLine::header_long))]
+#[tactic(auto, unfolding(crate::specs::Text::header))]
 pub fn put_header(variables: usize, clauses: usize, out: &mut [u8]) -> usize
     requires { length (header variables clauses) ≤ length out.old }
     ensures { Wrote (header variables clauses) out.old 0 out.new result }
 {
-    let at = put_slice(b"p cnf ", out, 0);
-    let to = put_number(variables, out, at);
-    let from = put_slice(b" ", out, to);
-    let end = put_number(clauses, out, from);
-    put_slice(b"\n", out, end)
+    put_line(b"p cnf ", variables, b" ", clauses, out)
 }
