@@ -1,4 +1,4 @@
--- The first line, as it is counted and as it is written, and the whole text.
+-- A line of two numbers, the first line, as it is counted and as it is written, and the whole text.
 use mathlib.Core.Path.{◌≡◌}
 use mathlib.Core.List.{List, [], ◌∷◌, ◌++◌}
 use Prim.Native.Nat.{ℕ, ◌+◌}
@@ -7,12 +7,17 @@ use lib.ListN.{length, length-append}
 use Rattle.lists.specs.Wrote.{Wrote}
 use Rattle.lists.proofs.Writing.{wrote_then}
 use Rattle.sections.specs.Sections.{Clause}
-use Rattle.dimacs.specs.Text.{digits, space, newline, header, clauses_text, text}
+use Rattle.dimacs.specs.Text.{digits, space, newline, numbers_line, problem, header, clauses_text, text}
+
+pub line_long : (before : List ℕ) (a : ℕ) (between : List ℕ) (b : ℕ) → length (numbers_line before a between b) ≡ length before + length (digits a) + length between + length (digits b) + 1
+line_long before a between b =
+    let ends = digits b ++ (newline ∷ []) in
+    omega (arith, length-append before (digits a ++ (between ++ ends)), length-append (digits a) (between ++ ends), length-append between ends, length-append (digits b) (newline ∷ []))
 
 module _ (v n : ℕ) where
   pub header_long : length (header v n) ≡ length (digits v) + length (digits n) + 8
   unfolding header
-  header_long = omega (arith, length-append (digits v) (space ∷ (digits n ++ (newline ∷ []))), length-append (digits n) (newline ∷ []))
+  header_long = omega (arith, line_long problem v (space ∷ []) n)
 
 -- ---- the other lines behind it
 

@@ -39,6 +39,10 @@ clause_text (l ∷ c) = literal_text l ++ (space ∷ clause_text c)
 abbrev pub clauses_text : List Clause → List ℕ
 clauses_text cs = flat_map clause_text cs
 
+-- a line of two numbers, each behind its words
+abbrev pub numbers_line : List ℕ → ℕ → List ℕ → ℕ → List ℕ
+numbers_line before a between b = before ++ (digits a ++ (between ++ (digits b ++ (newline ∷ []))))
+
 -- p cnf
 abbrev pub problem : List ℕ
 problem = 112 ∷ space ∷ 99 ∷ 110 ∷ 102 ∷ space ∷ []

@@ -1,11 +1,11 @@
 // How many clauses accepted words hold, and how many bytes their text has.
 ghost use Rattle.std.specs.Prelude.{◌≡◌, ◌≤◌, length};
-ghost use Rattle.formulas.specs.Clauses.{AreVariables, Formed, clauses_in};
+ghost use Rattle.formulas.specs.Clauses.{AreVariables, clauses_in};
 ghost use Rattle.dimacs.specs.Text.{literal_text, clause_text, header};
 ghost use Rattle.dimacs.specs.Sizes.{ExtentIs};
 
 use crate::digits::count_digits;
-use formulas::clauses::Clauses;
+use formulas::clauses::{Clauses, Formula};
 use lists::wide;
 use literals::Literal;
 
@@ -35,13 +35,12 @@ fn count_clause(clause: &[i32]) -> usize
     bytes + 2
 }
 
-pub fn count_lines(words: &[i32]) -> Extent
-    requires { Formed words.now }
-    ensures { ExtentIs (clauses_in words.now) result }
+pub fn count_lines(formula: Formula) -> Extent
+    ensures { ExtentIs (clauses_in formula.entry.words.now) result }
 {
     let mut clauses = 0;
     let mut bytes = 0;
-    for clause in Clauses::of(words) {
+    for clause in Clauses::of(formula) {
         bytes += count_clause(clause);
         clauses += 1;
     }

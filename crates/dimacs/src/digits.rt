@@ -1,7 +1,9 @@
-// Numbers in decimal digits, most significant first.
+// Numbers in decimal digits, most significant first, and a line of two.
 ghost use Rattle.std.specs.Prelude.{◌≡◌, ◌+◌, ◌≤◌, ◌<◌, length};
 ghost use Rattle.lists.specs.Wrote.{Wrote};
-ghost use Rattle.dimacs.specs.Text.{digit, digits};
+ghost use Rattle.dimacs.specs.Text.{digit, digits, numbers_line};
+
+use lists::put_slice;
 
 // 0 has one, as 1 has.
 #[tactic(auto, using(crate::proofs::NumberText::digits_count))]
@@ -32,4 +34,17 @@ pub fn put_number(n: usize, out: &mut [u8], at: usize) -> usize
     }
     out[at] = digit(n);
     at + 1
+}
+
+// A line of two numbers, each behind its words.
+#[tactic(auto, using(crate::proofs::HeaderLine::line_long))]
+pub fn put_line(before: &[u8], a: usize, between: &[u8], b: usize, out: &mut [u8]) -> usize
+    requires { length (numbers_line before.now a between.now b) ≤ length out.old }
+    ensures { Wrote (numbers_line before.now a between.now b) out.old 0 out.new result }
+{
+    let at = put_slice(before, out, 0);
+    let to = put_number(a, out, at);
+    let from = put_slice(between, out, to);
+    let end = put_number(b, out, from);
+    put_slice(b"\n", out, end)
 }

@@ -1,11 +1,11 @@
 // The text of accepted words.
 ghost use Rattle.std.specs.Prelude.{◌+◌, ◌≤◌, length};
 ghost use Rattle.lists.specs.Wrote.{Wrote};
-ghost use Rattle.formulas.specs.Clauses.{AreVariables, Formed, clauses_in};
+ghost use Rattle.formulas.specs.Clauses.{AreVariables, clauses_in};
 ghost use Rattle.dimacs.specs.Text.{literal_text, clause_text, clauses_text, header};
 
-use crate::digits::put_number;
-use formulas::clauses::Clauses;
+use crate::digits::{put_line, put_number};
+use formulas::clauses::{Clauses, Formula};
 use lists::{put_slice, wide};
 use literals::Literal;
 
@@ -35,25 +35,21 @@ fn put_clause(clause: &[i32], out: &mut [u8], at: usize) -> usize
     put_slice(b"0\n", out, to)
 }
 
-pub fn put_lines(words: &[i32], out: &mut [u8], at: usize) -> usize
-    requires { Formed words.now × (at + length (clauses_text (clauses_in words.now)) ≤ length out.old) }
-    ensures { Wrote (clauses_text (clauses_in words.now)) out.old at out.new result }
+pub fn put_lines(formula: Formula, out: &mut [u8], at: usize) -> usize
+    requires { at + length (clauses_text (clauses_in formula.words.now)) ≤ length out.old }
+    ensures { Wrote (clauses_text (clauses_in formula.entry.words.now)) out.old at out.new result }
 {
     let mut to = at;
-    for clause in Clauses::of(words) {
+    for clause in Clauses::of(formula) {
         to = put_clause(clause, out, to);
     }
     to
 }
 
-#[tactic(auto, using(crate::proofs::HeaderLine::header_long))]
+#[tactic(auto, unfolding(crate::specs::Text::header))]
 pub fn put_header(variables: usize, clauses: usize, out: &mut [u8]) -> usize
     requires { length (header variables clauses) ≤ length out.old }
     ensures { Wrote (header variables clauses) out.old 0 out.new result }
 {
-    let at = put_slice(b"p cnf ", out, 0);
-    let to = put_number(variables, out, at);
-    let from = put_slice(b" ", out, to);
-    let end = put_number(clauses, out, from);
-    put_slice(b"\n", out, end)
+    put_line(b"p cnf ", variables, b" ", clauses, out)
 }

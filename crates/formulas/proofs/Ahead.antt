@@ -1,29 +1,18 @@
 -- The second walk, over words among which none is wrong: what is ahead of it, and what a turn finds there.
 use mathlib.Core.Path.{◌≡◌, refl, sym, ap, ◌∙◌}
 use mathlib.Core.Bool.{false}
-use mathlib.Core.List.{List, [], ◌∷◌, ◌++◌, append_assoc, flatten, flat_map}
+use mathlib.Core.List.{List, [], ◌∷◌, ◌++◌, flatten, flat_map}
 use Prim.Native.Nat.{ℕ, zero, suc, ◌-◌, ◌≤◌, ◌<◌}
 use native.Mathlib.Omega.{arith}
 use lib.IntN.{ℤ, pos, nat_abs}
 use lib.ListN.{length, take, drop, length-append, length-drop}
 use lib.Seq.{take_at, drop_at}
 use Rattle.literals.specs.Literals.{is_negative}
-use Rattle.sections.specs.Sections.{Clause, clause_words, clauses_words, section_words, sections_words}
+use Rattle.sections.specs.Sections.{Clause, sections_words}
 use Rattle.formulas.specs.Clauses.{Formed, clauses_from, clauses_ahead, clauses_in, Ahead, ahead_words}
+use Rattle.formulas.specs.OneProof.{next_clause, next_section, none_ahead}
 
 -- ---- the clauses in sections' words are theirs
-
-next_clause : (c : Clause) (cs : List Clause) (ss : List (List Clause)) → ahead_words (c ∷ cs) ss ≡ pos (length c) ∷ (c ++ ahead_words cs ss)
-unfolding flat_map clause_words
-next_clause c cs ss = ap (λ (l : List ℤ). pos (length c) ∷ l) (append_assoc c (clauses_words cs) (sections_words ss))
-
-next_section : (s : List Clause) (ss : List (List Clause)) → ahead_words [] (s ∷ ss) ≡ pos (length s) ∷ ahead_words s ss
-unfolding flat_map section_words
-next_section s ss = refl
-
-none_ahead : ahead_words [] [] ≡ []
-unfolding flat_map
-none_ahead = refl
 
 clauses_in_ahead : (k : ℕ) (cs : List Clause) (ss : List (List Clause)) → length (ahead_words cs ss) ≤ k → clauses_from k (length cs) (ahead_words cs ss) ≡ cs ++ flatten ss
 unfolding clauses_from flatten

@@ -1,3 +1,4 @@
 pub mod Walk
 pub mod Clauses
 pub mod Stops
+pub mod OneProof

@@ -2,9 +2,17 @@
 ghost use Rattle.std.specs.Prelude.{◌≡◌, length};
 ghost use Rattle.std.specs.Iterator.{YieldsFirstRef, item_count};
 ghost use Rattle.formulas.specs.Clauses.{Formed, clauses_in};
+ghost use Rattle.formulas.specs.OneProof.{formed_prop};
 
 use crate::word::count;
 use std::marker::Model;
+
+// Clause words among which none is wrong.
+#[derive(Clone, Copy)]
+pub struct Formula<'a> {
+    pub words: &'a [i32],
+    pub ghost formed: { Formed words.now } by { formed_prop words.now },
+}
 
 // The words from the walk's place on, and how many clauses its section has left.
 #[derive(Drop)]
@@ -27,12 +35,11 @@ impl<'a> Model for Clauses<'a> {
 }
 
 impl<'a> Clauses<'a> {
-    pub fn of(words: &'a [i32]) -> Clauses<'a>
-        requires { Formed words.now }
-        ensures { result ≡ clauses_in words.now }
+    pub fn of(formula: Formula<'a>) -> Clauses<'a>
+        ensures { result ≡ clauses_in formula.entry.words.now }
     {
         Clauses {
-            rest: words,
+            rest: formula.words,
             left: 0,
         }
     }

@@ -1,8 +1,8 @@
 // Section 10: unit clauses, by each cell's mask and each colour. Cells row by row.
-ghost use Rattle.std.specs.Prelude.{◌≡◌, [], ◌∷◌, ◌+◌, ◌*◌, ◌≤◌, ◌<◌, length};
+ghost use Rattle.std.specs.Prelude.{◌≡◌, ◌+◌, ◌*◌, ◌≤◌, ◌<◌, length};
 ghost use Rattle.lists.specs.Wrote.{Wrote};
 ghost use Rattle.literals.specs.Literals.{IsVariable, largest};
-ghost use Rattle.sections.specs.Sections.{clause_words, clauses_words, section_words};
+ghost use Rattle.sections.specs.Sections.{clauses_words, section_words};
 ghost use Rattle.puzzles.specs.Checks.{puzzle};
 ghost use Rattle.cells.specs.Cells.{precomputed, precomputed_cells};
 ghost use Rattle.points.specs.Points.{of_mask, of_masks, Masked};
@@ -10,16 +10,7 @@ ghost use Rattle.points.specs.Points.{of_mask, of_masks, Masked};
 use bits::mask::{has, solved};
 use boards::board::Board;
 use literals::{count_word, no, yes};
-
-// The clause of one literal.
-fn put_one(a: i32, out: &mut [i32], at: usize) -> usize
-    requires { at + 2 ≤ length out.old }
-    ensures { Wrote (clause_words (a ∷ [])) out.old at out.new result }
-{
-    out[at] = 1;
-    out[at + 1] = a;
-    at + 2
-}
+use sections::put_clause;
 
 // One colour of a cell: its variable, the same negated, or nothing.
 fn precomputed_color(mask: u32, color: u32, v: usize, out: &mut [i32], at: usize) -> usize
@@ -30,17 +21,17 @@ fn precomputed_color(mask: u32, color: u32, v: usize, out: &mut [i32], at: usize
     let there = has(mask, color);
     if solved(mask) {
         if has(mask, 0) {
-            return put_one(no(v), out, at);
+            return put_clause([no(v)], out, at);
         }
         if there {
-            return put_one(yes(v), out, at);
+            return put_clause([yes(v)], out, at);
         }
         return at;
     }
     if there {
         return at;
     }
-    put_one(no(v), out, at)
+    put_clause([no(v)], out, at)
 }
 
 // A cell, whose variables begin at v.

@@ -6,17 +6,25 @@ ghost use Rattle.lists.specs.Wrote.{Wrote};
 ghost use Rattle.literals.specs.Literals.{IsVariable, largest};
 ghost use Rattle.sections.specs.Sections.{clause_words, clauses_words, at_least_one, at_most_one, row};
 
+use lists::put_slice;
 use literals::{count_word, no, yes};
 
-// The clause of two literals.
+// The clause of literals, behind their number.
+pub fn put_clause<const N: usize>(literals: [i32; N], out: &mut [i32], at: usize) -> usize
+    requires literals_few { length literals < 2147483648 }
+    requires literals_in_bounds { at + length (clause_words literals) ≤ length out.old }
+    ensures { Wrote (clause_words literals.entry) out.old at out.new result }
+{
+    out[at] = count_word(literals.len());
+    put_slice(&literals, out, at + 1)
+}
+
+// The clause of two.
 pub fn put_two(a: i32, b: i32, out: &mut [i32], at: usize) -> usize
     requires { at + 3 ≤ length out.old }
     ensures { Wrote (clause_words (a ∷ b ∷ [])) out.old at out.new result }
 {
-    out[at] = 2;
-    out[at + 1] = a;
-    out[at + 2] = b;
-    at + 3
+    put_clause([a, b], out, at)
 }
 
 // The n variables from v on.
