@@ -1,9 +1,9 @@
 -- The powers of a mask, lowest first, by halving: the mask minus one takes the lowest off, the set bits count them, and joined they are the mask, which its bits thus determine.
 use mathlib.Core.Path.{◌≡◌, refl, sym, ap, ap₂, ◌∙◌}
 use mathlib.Core.Bool.{true, false}
-use mathlib.Core.List.{List, [], ◌∷◌, ◌++◌, foldl}
+use mathlib.Core.List.{List, [], ◌∷◌, ◌++◌, foldl, append-nil}
 use mathlib.Core.Logic.{◌⊎◌, inl, inr, ⊎_elim}
-use Prim.Native.Nat.{ℕ, zero, suc, ◌+◌, ◌-◌, ◌*◌, ◌/◌, ◌%◌, ◌^◌, ◌<◌}
+use Prim.Native.Nat.{ℕ, zero, suc, ◌+◌, ◌-◌, ◌*◌, ◌/◌, ◌%◌, ◌^◌, ◌<◌, ◌≤◌}
 use native.Mathlib.Omega.{arith}
 use native.Mathlib.Numerals.{one-add}
 use native.Mathlib.Nat.{add-zero, zero-add, add-suc, suc-add, add-mul, one-mul, mul-one, mul_assoc, pow-suc, pow-succ'}
@@ -11,12 +11,13 @@ use lib.Arith.{lt-one}
 use lib.Bits.{bit_and, bit_or, and_step, and_self, and_le_l, or_shifted_r}
 use lib.Count.{ones, ones_step, ones-le}
 use lib.Dec.{eqb}
-use lib.ListN.{length}
+use lib.ListN.{length, length-append, drop_of_length-le}
 use borrow.Author.Tests.{ne_eqb}
+use Rattle.std.proofs.lemmas.List.{nil_from_length}
 use Rattle.lists.specs.Each.{each, when}
 use Rattle.lists.proofs.Eaches.{each_plus, each_same}
 use Rattle.lists.proofs.Tests.{same_tests}
-use Rattle.lists.proofs.Writing.{Filling, fill_as}
+use Rattle.lists.proofs.Writing.{Filling, fill_as, fill_done}
 use Rattle.bits.specs.Bits.{bit, powers, joined, solved}
 use Rattle.bits.proofs.SetBits.{bit_low, bit_half}
 
@@ -156,6 +157,22 @@ module _ (x : ℕ) (h : x < 2 ^ 32) where
   pub solved_alone : 0 < x → eqb (without x) 0 ≡ solved x
   unfolding solved
   solved_alone p = none_left (without x) (omega (arith, and_le_l x (x - 1))) ∙ rw (powers_next x h p)
+
+-- in the loop that stores them: what is left where there is room, and what stands there at the end
+module _ {whole out₀ out : List ℕ} {at : ℕ} (x : ℕ) (F : Filling whole out₀ 0 (powers x) out at) (l : length whole ≡ length out₀) where
+  powers_size : length out₀ ≡ at + length (powers x)
+  powers_size = omega (arith, l, ap length F.split, length-append F.done (powers x), F.wrote.next_is)
+
+  pub powers_more : at < length out₀ → 0 < x
+  powers_more h = none_or x powers_size
+    where
+      none_or : (y : ℕ) → length out₀ ≡ at + length (powers y) → 0 < y
+      none_or zero e = absurd (omega (arith, e, h, ap length powers_done))
+      none_or (suc y) e = omega arith
+
+  pub powers_all : length out₀ ≤ at → out ≡ whole
+  powers_all h =
+      (fill_done F (nil_from_length (powers x) (omega (arith, powers_size)))).left ∙ rw (drop_of_length-le out₀ {i = at} h, append-nil)
 
 -- masks with the same bits are equal
 pub same_bits : (x y : ℕ) → x < 2 ^ 32 → y < 2 ^ 32 → ((k : ℕ) → k < 32 → bit x k ≡ true → bit y k ≡ true) → ((k : ℕ) → k < 32 → bit y k ≡ true → bit x k ≡ true) → x ≡ y

@@ -15,16 +15,13 @@ pub fn two_powers(mask: u32, out: &mut [u32]) -> Result<usize, Refusal>
         return Err(Refusal::OutputTooShort(need));
     }
     let mut rest = mask;
-    let mut at = 0;
-    // no index: a turn for each bit that is left
-    while rest != 0 {
+    for word in &mut out[..need] {
         // a mask by the number minus one drops the lowest set bit
         let next = rest & (rest - 1);
-        out[at] = rest - next;
+        *word = rest - next;
         rest = next;
-        at += 1;
     }
-    Ok(at)
+    Ok(need)
 }
 
 // Joins words by or.

@@ -38,13 +38,16 @@ chunked (x ∷ y ∷ l) (suc k) e = ap (λ (t : List (List ℕ)). (x ∷ y ∷ [
 pub chunks_pairs : (l : List ℕ) → first_chunks 2 (length l / 2) l ≡ pairs (blocks l)
 chunks_pairs l = chunked l (length l / 2) (sym (blocks_length l))
 
--- a size is one of the words
-block_size : (l : List ℕ) (b : ℕ) → b < length (blocks l) → (block_at (blocks l) b).size ≡ get_or l (2 * b) 0
+-- a block is two of the words
+block_is : (l : List ℕ) (b : ℕ) → b < length (blocks l) → block_at (blocks l) b ≡ record { size = get_or l (2 * b) 0; color = get_or l (2 * b + 1) 0 }
 unfolding blocks
-block_size [] b h = absurd (omega arith)
-block_size (x ∷ []) b h = absurd (omega arith)
-block_size (x ∷ y ∷ l) zero h = refl
-block_size (x ∷ y ∷ l) (suc b) h = let e : 2 * suc b ≡ suc (suc (2 * b)) = omega arith in block_size l b (omega arith) ∙ rw e
+block_is [] b h = absurd (omega arith)
+block_is (x ∷ []) b h = absurd (omega arith)
+block_is (x ∷ y ∷ l) zero h = refl
+block_is (x ∷ y ∷ l) (suc b) h =
+    let e : 2 * suc b ≡ suc (suc (2 * b)) = omega arith in
+    let f : 2 * suc b + 1 ≡ suc (suc (2 * b + 1)) = omega arith in
+    block_is l b (omega arith) ∙ rw (f, e)
 
 -- the next of the blocks from b on
 abbrev pub NextBlock : List Block → ℕ → ℕ → ℕ → Type 0
@@ -64,8 +67,12 @@ module _ (bs : List Block) {ps : List (List ℕ)} (e : ps ≡ pairs bs) {b : ℕ
 pub pairs_length : (l : List ℕ) {ps : List (List ℕ)} → ps ≡ pairs (blocks l) → length ps ≡ length l / 2
 pairs_length l e = ap length e ∙ length-map (blocks l) (λ b. b.size ∷ b.color ∷ []) ∙ blocks_length l
 
-pub pair_word : (l : List ℕ) {ps : List (List ℕ)} → ps ≡ pairs (blocks l) → {b : ℕ} → b < length ps → get_or (get_or ps b []) 0 0 ≡ get_or l (2 * b) 0
-pair_word l e {b} h = ap (λ p. get_or p 0 0) (pair_is (blocks l) e h) ∙ block_size l b (within (blocks l) e h)
+module _ (l : List ℕ) {ps : List (List ℕ)} (e : ps ≡ pairs (blocks l)) {b : ℕ} (h : b < length ps) where
+  pub pair_word : get_or (get_or ps b []) 0 0 ≡ get_or l (2 * b) 0
+  pair_word = ap (λ p. get_or p 0 0) (pair_is (blocks l) e h) ∙ ap (λ (r : Block). r.size) (block_is l b (within (blocks l) e h))
+
+  pub pair_color : get_or (get_or ps b []) 1 0 ≡ get_or l (2 * b + 1) 0
+  pair_color = ap (λ p. get_or p 1 0) (pair_is (blocks l) e h) ∙ ap (λ (r : Block). r.color) (block_is l b (within (blocks l) e h))
 
 -- all of them have been passed
 pub pairs_done : (bs : List Block) {ps : List (List ℕ)} → ps ≡ pairs bs → {b : ℕ} → length ps ≤ b → drop b bs ≡ []

@@ -41,7 +41,7 @@ fn min_space(clue: &[u32]) -> u64
     let mut at: u64 = 0;
     let mut color: u32 = 0;
     for &[size, next] in blocks(clue) {
-        at = at + gap(color, next) as u64 + size as u64;
+        at = at + u64::from(gap(color, next)) + u64::from(size);
         color = next;
     }
     at

@@ -7,5 +7,5 @@ ghost use Rattle.lines.specs.Clue as Clue;
 pub fn gap(color1: u32, color2: u32) -> u32
     ensures { (result ≡ Clue.gap color1 color2) × (result ≤ 1) }
 {
-    if color1 == color2 { 1 } else { 0 }
+    u32::from(color1 == color2)
 }

@@ -25,8 +25,8 @@ pub fn test_lines(
     ensures { told result ≡ tested (value trial.entry.model.now) at (of_lines (puzzle_tried trial.entry) rule from n) }
 {
     let mut to = at;
-    for k in 0..n {
-        to = test_rule(rule, trial.line(from + k), to)?;
+    for l in from..from + n {
+        to = test_rule(rule, trial.line(l), to)?;
     }
     Ok(to)
 }

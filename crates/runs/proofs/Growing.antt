@@ -6,7 +6,6 @@ use Prim.Native.Nat.{ℕ, zero, suc, ◌+◌, ◌*◌, ◌≤◌}
 use native.Mathlib.Omega.{arith}
 use lib.ListN.{length}
 use lib.Dec.{eqb}
-use borrow.Author.Tests.{eq-eqb, ne_eqb}
 use Rattle.lists.specs.Each.{each, tab}
 use Rattle.runs.specs.Begins.{begins}
 use Rattle.lines.specs.Calls.{line_words}
@@ -15,19 +14,6 @@ use Rattle.runs.proofs.LineCells.{begun, line_begun, two_begins}
 -- ---- a cell of colour x after one of colour c
 
 module _ (c x : ℕ) where
-  pub begins_same : x ≡ c → begins c x ≡ 0
-  unfolding begins
-  begins_same e = rw (eq-eqb _ _ e)
-
-  module _ (n : x ≡ c → ⊥) where
-    pub begins_blank : x ≡ 0 → begins c x ≡ 0
-    unfolding begins
-    begins_blank e = rw (ne_eqb _ _ n, eq-eqb _ _ e)
-
-    pub begins_some : (x ≡ 0 → ⊥) → begins c x ≡ 1
-    unfolding begins
-    begins_some e = rw (ne_eqb _ _ n, ne_eqb _ _ e)
-
   pub begins_most : begins c x ≤ 1
   unfolding begins
   begins_most = go (eqb x c || eqb x 0)

@@ -48,17 +48,11 @@ pub fn check_bytes(line: &[u8]) -> Result<(), Refusal>
 }
 
 // 1 where a cell begins a run after one of the colour before. It is added, so that the loops which count have no branch.
-#[tactic(auto, using(crate::proofs::Growing::begins_same, crate::proofs::Growing::begins_blank, crate::proofs::Growing::begins_some))]
+#[tactic(auto, unfolding(crate::specs::Begins::begins))]
 pub fn run_begins(before: u8, color: u8) -> u8
     ensures { (result ≡ begins before color) × (result ≤ 1) }
 {
-    if color == before {
-        return 0;
-    }
-    if color == 0 {
-        return 0;
-    }
-    1
+    u8::from(color != before && color != 0)
 }
 
 // How many words the runs of a line take: two for each cell that begins one. A byte counts them, so that many cells are taken at a time.
@@ -72,7 +66,7 @@ pub fn count_words(line: &[u8]) -> usize
         count += run_begins(color, next);
         color = next;
     }
-    2 * count as usize
+    2 * usize::from(count)
 }
 
 // Writes a run that has ended, where it is not blank.
@@ -83,7 +77,7 @@ fn put_run(size: u32, color: u8, out: &mut [u32], at: usize) -> usize
     if color == 0 {
         return at;
     }
-    put_pair(size, color as u32, out, at)
+    put_pair(size, u32::from(color), out, at)
 }
 
 // Writes the runs of n cells, each a step after the one before.

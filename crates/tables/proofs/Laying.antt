@@ -11,6 +11,7 @@ use lib.ListN.{length, take, drop, get_or, length-drop}
 use borrow.Author.Tests.{lt-ltb, le-ltb, ltb-true, ltb-false}
 use borrow.Rule.Slice.PartMut.{put_mid}
 use Rattle.std.specs.Prelude.{Result, Ok, Err}
+use Rattle.std.specs.Result.{result_or}
 use Rattle.lists.specs.Wrote.{Wrote}
 use Rattle.lists.proofs.Tests.{cond_most}
 use Rattle.lists.proofs.Writing.{wrote_then, wrote_tail, wrote_there, wrote_before, wrote_at, wrote_kept, tail_is}
@@ -32,6 +33,16 @@ use Rattle.tables.specs.Table.{begin_at, laid_words, LineLaid, Laid, Standing}
 use Rattle.puzzles.proofs.Accepting.{walked_sections, FineLine, fine_lines}
 use Rattle.tables.proofs.Beginning.{Here, clue_here, begin_next, begin_cells}
 use Rattle.puzzles.proofs.Lines.{spaces_fit, spaces_short}
+
+-- `r.or(Err(e))?`: what went on, and what was handed up
+module _ {A : Type 0} (e : Refusal) where
+  pub or_ok : (r : Result A Refusal) {x : A} → result_or r (Err e) ≡ Ok x → r ≡ Ok x
+  or_ok (Ok y) p = p
+  or_ok (Err why) p = let z : ◌≡◌ {A = ℕ} 0 1 = cc in absurd (omega arith)
+
+  pub or_err : (r : Result A Refusal) {x : Refusal} → result_or r (Err e) ≡ Err x → (why : Refusal) × (r ≡ Err why)
+  or_err (Ok y) p = let z : ◌≡◌ {A = ℕ} 0 1 = cc in absurd (omega arith)
+  or_err (Err why) p = (why, refl)
 
 pub line_size_lem : (z : Puzzle) (l : ℕ) → length (laid_words z l) ≡ 4 + length (clue_at z l)
 unfolding laid_words

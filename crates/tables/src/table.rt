@@ -48,9 +48,7 @@ fn lay_line(
     let n = wide(words[at]);
     let to = put_pair(at as u32, first as u32, table, LINE_SIZE * l);
     let answer = starts(cells, &words[at + 1..at + 1 + 2 * n], &mut table[to..]);
-    let Ok(_) = answer else {
-        return Err(Refusal::LineTooShort(l));
-    };
+    answer.or(Err(Refusal::LineTooShort(l)))?;
     Ok(n * wide(table[to]))
 }
 

@@ -3,8 +3,5 @@ use Rattle.lists.proofs.Writing.{Filling}
 use Rattle.bits.specs.Bits.{powers}
 use Rattle.bits.proofs.powers.two_powers.Given as goal
 
-abbrev pub invariant-loop-rest : goal.invariant-loop-rest
-invariant-loop-rest l = Filling (powers l.mask) l.initial.out 0 (powers l.rest) l.out l.at × (l.rest < 2 ^ 32)
-
-abbrev pub decreases-loop-rest : goal.decreases-loop-rest
-decreases-loop-rest l = l.rest
+abbrev pub invariant-loop-word : goal.invariant-loop-word
+invariant-loop-word l = Filling (powers l.mask) l.initial.word-items 0 (powers l.rest) l.word-items l.word-index × (l.rest < 2 ^ 32)

@@ -16,7 +16,7 @@ overflow_add-at-in-loop-size c =
 
 pub loop-size-preserved : goal.loop-size-preserved
 loop-size-preserved c = (
-  rw c.gap.ensures.0 (walk_next c.loop-size.invariant.0 (pair_next _ c.blocks-size-items.ensures c.loop-size-test.true)),
+  rw (c.from.ensures, c.from-in-loop-size.ensures, c.gap.ensures.0) (walk_next c.loop-size.invariant.0 (pair_next _ c.blocks-size-items.ensures c.loop-size-test.true)),
   omega (arith, c.loop-size.invariant.1, c.gap.ensures.1, pair_word c.args.clue.now c.blocks-size-items.ensures c.loop-size-test.true, c.type_inv.clue (2 * c.loop-size.size-index)),
 )
 

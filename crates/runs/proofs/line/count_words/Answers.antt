@@ -9,4 +9,4 @@ pub loop-next-preserved : goal.loop-next-preserved
 loop-next-preserved c = counting_next c.loop-next.invariant (omega arith) c.run_begins-count.ensures.0 c.run_begins-count.ensures.1
 
 pub returns : goal.returns
-returns c = counting_done c.loop-next.invariant (omega arith)
+returns c = rw c.from.ensures (counting_done c.loop-next.invariant (omega arith))

@@ -12,4 +12,4 @@ pub put_pair-requires : goal.put_pair-requires
 put_pair-requires c = omega (arith, ap length (run_some c.args.size c.args.color c.if-color-eq0.false))
 
 pub returns : goal.returns
-returns c = rw (run_some _ _ c.if-color-eq0.false) c.put_pair.ensures
+returns c = rw (run_some _ _ c.if-color-eq0.false) (rw c.from.ensures at c.put_pair.ensures)
