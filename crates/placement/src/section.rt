@@ -27,8 +27,8 @@ pub fn write_lines(
 {
     out[0] = count_word(count);
     let mut to = 1;
-    for k in 0..n {
-        to = line_clauses(rule, lines.line(from + k), out, to);
+    for l in from..from + n {
+        to = line_clauses(rule, lines.line(l), out, to);
     }
     to
 }
