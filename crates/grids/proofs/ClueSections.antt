@@ -1,9 +1,13 @@
 -- The words of a section of clues, line by line.
-use mathlib.Core.Path.{◌≡◌, refl, ap, ap₂}
-use mathlib.Core.List.{List, [], ◌∷◌, append-nil, flat_map}
+use mathlib.Core.Path.{◌≡◌, refl, sym, ap, ap₂, ◌∙◌}
+use mathlib.Core.List.{List, [], ◌∷◌, ◌++◌, append-nil, flat_map}
 use Prim.Native.Nat.{ℕ, zero, suc, ◌+◌, ◌-◌, ◌*◌, ◌/◌, ◌≤◌, ◌<◌}
 use native.Mathlib.Omega.{arith}
 use native.Mathlib.Numerals.{add-one}
+use native.Mathlib.Nat.{mul_comm, zero-mul, suc-mul, mul-le-mul_right}
+use native.Mathlib.Decide.{dec_lt}
+use Rattle.std.proofs.Math.Seq.{take-append_seam, drop-append_seam}
+use Rattle.std.proofs.lemmas.List.{length-drop, drop-drop}
 use lib.ListN.{length, take, drop, set, length-append, length-set}
 use Rattle.lists.specs.Each.{each, tab}
 use Rattle.lists.specs.Wrote.{Wrote}
@@ -18,7 +22,7 @@ use Rattle.lines.specs.Calls.{line_words}
 use Rattle.lines.proofs.Coloring.{line_words_lem, line_words_length, runs_few}
 use Rattle.puzzles.specs.Puzzle.{clue_words, clues_words, lines_words}
 use Rattle.grids.specs.Grid.{row, row_clues}
-use Rattle.grids.specs.Sized.{Lined, laid_clues}
+use Rattle.grids.specs.Sized.{Sized, Lined, laid_clues}
 use Rattle.grids.proofs.Cells.{row_length}
 
 -- ---- one line
@@ -75,17 +79,8 @@ module _ (n len : ℕ) (cells : List ℕ) (L : Lined n len cells) where
   rows_most = omega (arith, section_length n (λ i. runs (row len cells i)), each_most n 129 (line_clue len cells) row_most, L.few)
 
   module _ (i : ℕ) (h : i < n) where
-    pub line_end : i * len + len ≤ length cells
+    line_end : i * len + len ≤ length cells
     line_end = omega (arith, part_within n len i h, L.room)
-
-    pub line_row : take (i * len + len - i * len) (drop (i * len) cells) ≡ row len cells i
-    unfolding row
-    line_row =
-        let e : i * len + len - i * len ≡ len = omega arith in
-        rw e (part_tab 0 cells (i * len) len line_end)
-
-    pub line_short : length (take (i * len + len - i * len) (drop (i * len) cells)) ≤ 64
-    line_short = omega (arith, ap length line_row, row_length len n cells i, L.short)
 
 pub record Summing (n len : ℕ) (cells : List ℕ) (count i : ℕ) : Type 0 where
   pub within : i ≤ n
@@ -110,6 +105,55 @@ module _ {n len : ℕ} {cells : List ℕ} {count i : ℕ} (S : Summing n len cel
   summing_done h =
       let e : i ≡ n = omega (arith, S.within) in
       omega (arith, S.counted, section_length n (λ i. runs (row len cells i)), ap (λ (k : ℕ). length (each k (line_clue len cells))) e)
+
+-- the rows that are still to be counted
+pub record Counting (n len : ℕ) (cells : List ℕ) (count i : ℕ) (rest : List ℕ) (size : ℕ) : Type 0 where
+  pub summing : Summing n len cells count i
+  pub left : rest ≡ drop (i * len) cells
+  pub size_is : size ≡ len
+
+pub rows_lined : {w h : ℕ} {cells : List ℕ} → Sized w h cells → Lined h w cells
+rows_lined {w} {h} S = record { few = S.height_most; short = S.width_most; room = omega (arith, S.cells, mul_comm w h) }
+
+pub counting_first : {n len : ℕ} {cells rest : List ℕ} {size : ℕ} → rest ≡ cells → size ≡ len → Counting n len cells 1 0 rest size
+counting_first {n} {len} {cells} e s = record { summing = summing_first n len cells; left = e ∙ ap (λ k. drop k cells) (sym (zero-mul len)); size_is = s }
+
+module _ {n len : ℕ} {cells rest : List ℕ} {count i size : ℕ} (S : Sized len n cells) (C : Counting n len cells count i rest size) where
+  left_long : length rest ≡ n * len - i * len
+  left_long = omega (arith, ap length C.left, length-drop (i * len) cells, S.cells, mul_comm len n)
+
+  module _ (x rest' : List ℕ) (size' : ℕ) (e : rest ≡ x ++ rest') (l : length x ≡ size) (s : size' ≡ size) where
+    long : length x ≡ len
+    long = l ∙ C.size_is
+
+    pub row_short : length x ≤ 64
+    row_short = omega (arith, long, S.width_most)
+
+    more_rows : i < n
+    more_rows = elim (dec_lt i n) [
+      | yes h ↦ h
+      | no h ↦ absurd (omega (arith, mul-le-mul_right {m = n} {n = i} len (omega arith), left_long, ap length e, length-append x rest', long, S.width_some))
+    ]
+
+    row_is : x ≡ row len cells i
+    unfolding row
+    row_is = sym (take-append_seam x rest') ∙ ap (λ k. take k (x ++ rest')) long ∙ ap (take len) (sym e ∙ C.left) ∙ part_tab 0 cells (i * len) len (line_end n len cells (rows_lined S) i more_rows)
+
+    left_next : rest' ≡ drop (i * len + len) cells
+    left_next = sym (drop-append_seam x rest') ∙ ap (λ k. drop k (x ++ rest')) long ∙ ap (drop len) (sym e ∙ C.left) ∙ drop-drop len (i * len) cells
+
+    pub counting_next : {more : ℕ} → more ≡ length (line_words x) → Counting n len cells (count + (1 + more)) (i + 1) rest' size'
+    counting_next m = record {
+      summing = summing_next C.summing (rows_lined S) more_rows (m ∙ ap (λ r. length (line_words r)) row_is);
+      left = left_next ∙ ap (λ k. drop k cells) (omega (arith, suc-mul i len, ap (λ k. k * len) (add-one i)));
+      size_is = s ∙ C.size_is;
+    }
+
+  pub counting_done : length rest < size → count ≡ length (lines_words (row_clues len n cells))
+  counting_done h = elim (dec_lt i n) [
+    | yes k ↦ absurd (omega (arith, part_within n len i k, left_long, C.size_is))
+    | no k ↦ summing_done C.summing (omega arith)
+  ]
 
 -- ---- lines that lie in any way, as they are written
 

@@ -3,7 +3,6 @@ use mathlib.Core.Path.{◌≡◌, ap, subst, ◌∙◌}
 use mathlib.Core.List.{List, ◌++◌}
 use Prim.Native.Nat.{ℕ, ◌+◌, ◌≤◌, ◌*◌}
 use native.Mathlib.Omega.{arith}
-use native.Mathlib.Nat.{mul_comm}
 use lib.ListN.{length, length-append}
 use Rattle.lists.specs.Each.{tab}
 use Rattle.lists.specs.Wrote.{Wrote}
@@ -13,15 +12,12 @@ use Rattle.lines.specs.Line.{runs}
 use Rattle.runs.proofs.LineCells.{strided_is}
 use Rattle.puzzles.specs.Puzzle.{lines_words, cells_words, puzzle_words}
 use Rattle.grids.specs.Grid.{row, column, row_clues, column_clues, grid_puzzle, grid_words}
-use Rattle.grids.specs.Sized.{Sized, Lined, Laid, laid_clues}
+use Rattle.grids.specs.Sized.{Sized, Laid, laid_clues}
 use Rattle.grids.specs.Mask.{cells_mask}
 use Rattle.grids.proofs.Cells.{sized_most, place_in, place_most}
-use Rattle.grids.proofs.ClueSections.{rows_most}
+use Rattle.grids.proofs.ClueSections.{rows_lined, rows_most}
 use Rattle.grids.proofs.ColumnWords.{columns_most}
 use Rattle.grids.proofs.GridColors.{mask_is}
-
-pub rows_lined : {w h : ℕ} {grid : List ℕ} → Sized w h grid → Lined h w grid
-rows_lined {w} {h} S = record { few = S.height_most; short = S.width_most; room = omega (arith, S.cells, mul_comm w h) }
 
 cells_length : (n mask : ℕ) → length (cells_words (tab n (λ _. mask))) ≡ 1 + n
 unfolding cells_words

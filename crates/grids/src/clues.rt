@@ -7,20 +7,18 @@ ghost use Rattle.lines.specs.Line.{runs};
 ghost use Rattle.runs.specs.Strided.{strided, Strided};
 ghost use Rattle.puzzles.specs.Puzzle.{clue_words, lines_words};
 ghost use Rattle.grids.specs.Grid.{row_clues, column_clues};
-ghost use Rattle.grids.specs.Sized.{Lined, Laid, laid_clues};
+ghost use Rattle.grids.specs.Sized.{Laid, laid_clues};
 
 use crate::grid::Grid;
 use runs::line::{count_words, put_runs, run_begins};
 
-// How many words a section of n lines takes: its count, and a count and the runs for each line.
-pub fn count_clues(n: usize, len: usize, cells: &[u8]) -> usize
-    requires { Lined n len cells.now }
-    ensures { result ≡ length (lines_words (row_clues len n cells.now)) }
+// How many words the section of the rows takes: its count, and a count and the runs for each row.
+pub fn count_clues(grid: Grid) -> usize
+    ensures { result ≡ length (lines_words (row_clues grid.entry.width grid.entry.height grid.entry.cells.now)) }
 {
     let mut count = 1;
-    for i in 0..n {
-        let at = i * len;
-        count += 1 + count_words(&cells[at..at + len]);
+    for row in grid.cells.chunks_exact(grid.width) {
+        count += 1 + count_words(row);
     }
     count
 }

@@ -26,7 +26,7 @@ fn check_grid(width: usize, height: usize, grid: &[u8]) -> Result<(), Refusal>
 fn count_grid(grid: Grid) -> usize
     ensures { result ≡ length (grid_words grid.entry.width grid.entry.height grid.entry.cells.now) }
 {
-    count_columns(grid) + count_clues(grid.height, grid.width, grid.cells) + 1 + grid.cells.len()
+    count_columns(grid) + count_clues(grid) + 1 + grid.cells.len()
 }
 
 // Writes the columns, the rows and the cells.
