@@ -10,7 +10,6 @@ ghost use Rattle.numbering.specs.Variables.{many, first_of};
 ghost use Rattle.numbering.specs.Tables.{Sound, line_of};
 ghost use Rattle.numbering.specs.OneProof.{sound_prop};
 
-use lines::clue::blocks;
 use lines::meet::{Run, distance};
 use lists::wide;
 use tables::layout::{FIRST, POSITIONS, STARTS};
@@ -85,12 +84,9 @@ impl<'a> Line<'a> {
         ensures { run result ≡ at (line_in self.entry).runs b }
     {
         let start = wide(self.laid[STARTS + b]);
-        let [size, color] = blocks(self.clue)[b];
-        Run {
-            start,
-            size: wide(size),
-            color,
-        }
+        let size = wide(self.clue[2 * b]);
+        let color = self.clue[2 * b + 1];
+        Run { start, size, color }
     }
 
     // How far block a must be ahead of the later block b to meet it.
