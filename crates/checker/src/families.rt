@@ -44,10 +44,13 @@ fn test_cell_sections(claim: Claim, at: usize) -> Result<usize, Refusal>
     requires { Countable at (flatten (cell_sections (puzzle_claimed claim))) }
     ensures { told result ≡ tested (value claim.entry.model.now) at (flatten (cell_sections (puzzle_claimed claim.entry))) }
 {
+    let words = claim.given.reading.lines.words;
+    let board = claim.given.reading.board;
+    let palette = claim.given.palette;
     let eighth = test_cells(Cover::Color, claim, at)?;
     let ninth = test_cells(Cover::Space, claim, eighth)?;
-    let tenth = test_points(claim, ninth)?;
-    test_precomputed(claim, tenth)
+    let tenth = test_points(board, palette.len(), claim.model, ninth)?;
+    test_precomputed(words, board, palette, claim.model, tenth)
 }
 
 pub fn test_sections(claim: Claim) -> Result<usize, Refusal>

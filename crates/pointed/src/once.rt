@@ -2,38 +2,41 @@
 ghost use Rattle.std.specs.Prelude.{◌≡◌, ◌<◌, length};
 ghost use Rattle.refusals.specs.Told.{told};
 ghost use Rattle.puzzles.specs.Puzzle.{Puzzle};
+ghost use Rattle.numbering.specs.Variables.{variables};
 ghost use Rattle.truth.specs.Truth.{value};
 ghost use Rattle.truth.specs.Tested.{tested, Countable};
 ghost use Rattle.cells.specs.Cells.{point_once};
 ghost use Rattle.cells.specs.Given.{Shows};
 ghost use Rattle.points.specs.Points.{column_once};
-ghost use Rattle.colored.specs.Held.{puzzle_claimed};
 
-use colored::claim::Claim;
+use boards::board::Board;
+use cells::given::Shown;
 use refusals::Refusal;
 use truth::test_at_most_one;
 
 // Of column x.
-fn test_column(claim: Claim, x: usize, at: usize) -> Result<usize, Refusal>
-    requires x_lt_width { x < claim.given.reading.board.width }
-    requires countable { Countable at (column_once claim.given.reading.board (length claim.given.palette.now) x) }
-    ensures { told result ≡ tested (value claim.entry.model.now) at (column_once claim.entry.given.reading.board (length claim.entry.given.palette.now) x) }
+fn test_column(shown: Shown, x: usize, model: &[u8], at: usize) -> Result<usize, Refusal>
+    requires known { (z : Puzzle) × Shows shown.board shown.hues z × (length model.now ≡ variables z) }
+    requires x_lt_width { x < shown.board.width }
+    requires countable { Countable at (column_once shown.board shown.hues x) }
+    ensures { told result ≡ tested (value model.now) at (column_once shown.board shown.hues x) }
 {
-    let shown = claim.given.shown();
     let mut to = at;
     for y in 0..shown.board.height {
-        to = test_at_most_one(claim.model, shown.cell_first(x, y), shown.hues, to)?;
+        to = test_at_most_one(model, shown.cell_first(x, y), shown.hues, to)?;
     }
     Ok(to)
 }
 
-pub fn test_points(claim: Claim, at: usize) -> Result<usize, Refusal>
-    requires { Countable at (point_once (puzzle_claimed claim)) }
-    ensures { (z : Puzzle) → Shows claim.entry.given.reading.board (length claim.entry.given.palette.now) z → told result ≡ tested (value claim.entry.model.now) at (point_once z) }
+// On a board of k colours.
+pub fn test_points(board: Board, k: usize, model: &[u8], at: usize) -> Result<usize, Refusal>
+    requires { (z : Puzzle) × Shows board k z × (length model.now ≡ variables z) × Countable at (point_once z) }
+    ensures { (z : Puzzle) → Shows board k z → told result ≡ tested (value model.now) at (point_once z) }
 {
+    let shown = Shown { board, hues: k };
     let mut to = at;
-    for x in 0..claim.given.reading.board.width {
-        to = test_column(claim, x, to)?;
+    for x in 0..board.width {
+        to = test_column(shown, x, model, to)?;
     }
     Ok(to)
 }

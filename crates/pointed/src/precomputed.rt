@@ -1,16 +1,17 @@
 // Family 10: unit clauses, by each cell's mask and each colour. Cells row by row.
 ghost use Rattle.std.specs.Prelude.{◌≡◌, [], ◌∷◌, ◌+◌, ◌*◌, ◌^◌, ◌≤◌, ◌<◌, length};
 ghost use Rattle.refusals.specs.Told.{told};
+ghost use Rattle.puzzles.specs.Checks.{puzzle};
+ghost use Rattle.numbering.specs.Variables.{variables};
 ghost use Rattle.sections.specs.Sections.{Clause};
 ghost use Rattle.truth.specs.Truth.{Assignment, value, clause_true};
 ghost use Rattle.truth.specs.Tested.{tested, Countable};
 ghost use Rattle.cells.specs.Cells.{precomputed, precomputed_cells};
-ghost use Rattle.points.specs.Points.{of_mask, of_masks};
+ghost use Rattle.points.specs.Points.{of_mask, of_masks, Masked};
 ghost use Rattle.colored.specs.Models.{Of};
-ghost use Rattle.colored.specs.Held.{puzzle_claimed};
 
 use bits::mask::{has, solved};
-use colored::claim::Claim;
+use boards::board::Board;
 use refusals::Refusal;
 use truth::on;
 
@@ -86,16 +87,17 @@ fn test_masks(
     Ok(to)
 }
 
-pub fn test_precomputed(claim: Claim, at: usize) -> Result<usize, Refusal>
-    requires { Countable at (precomputed_cells (puzzle_claimed claim)) }
-    ensures { told result ≡ tested (value claim.entry.model.now) at (precomputed_cells (puzzle_claimed claim.entry)) }
+pub fn test_precomputed(
+    words: &[u32],
+    board: Board,
+    palette: &[u32],
+    model: &[u8],
+    at: usize,
+) -> Result<usize, Refusal>
+    requires masked { Masked words.now board palette.now × (length model.now ≡ variables (puzzle words.now)) }
+    requires countable { Countable at (precomputed_cells (puzzle words.now)) }
+    ensures { told result ≡ tested (value model.now) at (precomputed_cells (puzzle words.now)) }
 {
-    let reading = claim.given.reading;
-    test_masks(
-        reading.masks(),
-        claim.given.palette,
-        reading.board.first,
-        claim.model,
-        at,
-    )
+    let cells = board.cells;
+    test_masks(&words[cells + 1..], palette, board.first, model, at)
 }
