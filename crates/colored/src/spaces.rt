@@ -82,6 +82,10 @@ pub fn test_spaces(
     requires countable { Countable at (each 2 (of_side (puzzle_tried trial) Space color v x row y)) }
     ensures { told result ≡ tested (value trial.entry.model.now) at (each 2 (of_side (puzzle_tried trial.entry) Space color v x row y)) }
 {
-    let next = test_line(trial.line(x), color, y, v, at)?;
-    test_line(trial.line(row), color, x, v, next)
+    let mut to = at;
+    // one call, in a loop of two: called twice, it is not compiled in place
+    for &(l, t) in &[(x, y), (row, x)] {
+        to = test_line(trial.line(l), color, t, v, to)?;
+    }
+    Ok(to)
 }
