@@ -1,4 +1,7 @@
 // What is read of a puzzle's words: its board, and what the table has of each line.
+ghost use Rattle.std.specs.Prelude.{◌+◌, ◌≤◌, IfOk, vec_len};
+ghost use Rattle.tables.specs.Layout.{line_size};
+
 use boards::board::{Board, read_puzzle};
 use cases::case::Case;
 use shows::show::show;
@@ -33,8 +36,10 @@ fn show_board<W: Write>(
     show(writer, 0, 0, &out)
 }
 
-// The words in front of the starts, and a start for each block: the first word is where the number of blocks stands.
-fn list_line(words: &[u32], line: &[u32; LINE_SIZE], out: &mut Vec<u32>) -> Result<(), AllocError> {
+// The words in front of the starts, and a start for each block: the first word is where the number of blocks stands. No more than the line has.
+fn list_line(words: &[u32], line: &[u32; LINE_SIZE], out: &mut Vec<u32>) -> Result<(), AllocError>
+    ensures { IfOk result (λ _. (vec_len out.old ≤ vec_len out.new) × (vec_len out.new ≤ vec_len out.old + line_size)) }
+{
     let blocks = words.get(line[0] as usize).copied().unwrap_or(0) as usize;
     out.extend_from_slice(&line[..STARTS + blocks.min(64)])
 }
