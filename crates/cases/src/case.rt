@@ -1,5 +1,5 @@
 // What a stored case asks of its entry.
-ghost use Rattle.std.specs.Prelude.{◌≡◌, ◌%◌, IfOk, map, take};
+ghost use Rattle.std.specs.Prelude.{◌≡◌, ◌%◌, IfOk, length, map, min, take};
 
 use std::alloc::{AllocError, Global};
 
@@ -14,15 +14,26 @@ pub struct Case<'a> {
 // The most bytes of a line, a grid or a model.
 const BYTES: usize = 4200;
 
-// The lowest byte of each number.
+// The lowest byte of each number into out, as many as it has room for; answers how many.
+#[tactic(auto, using(std::proofs::lemmas::List::take_more_set))]
+pub fn as_bytes(numbers: &[u32], out: &mut [u8]) -> usize
+    ensures count { result ≡ min (length numbers.now) (length out.old) }
+    ensures bytes { take result out.new ≡ map (λ n. n % 256) (take result numbers.now) }
+{
+    let n = numbers.len().min(out.len());
+    for (i, number) in numbers[..n].iter().enumerate() {
+        out[i] = (number % 256) as u8;
+    }
+    n
+}
+
+// The same of 4,200 numbers at most, in bytes of its own.
 pub fn low_bytes(alloc: Global, numbers: &[u32]) -> Result<Vec<u8>, AllocError>
     ensures { IfOk result (λ v. v.items ≡ map (λ n. n % 256) (take 4200 numbers.now)) }
 {
-    numbers
-        .iter()
-        .take(BYTES)
-        .map(|n| (n % 256) as u8)
-        .collect(alloc)
+    let mut bytes = vec![in alloc; 0; numbers.len().min(BYTES)]?;
+    as_bytes(numbers, &mut bytes);
+    Ok(bytes)
 }
 
 #[cfg(test)]
