@@ -71,9 +71,6 @@ module _ (l : List ℕ) {ps : List (List ℕ)} (e : ps ≡ pairs (blocks l)) {b 
   pub pair_word : get_or (get_or ps b []) 0 0 ≡ get_or l (2 * b) 0
   pair_word = ap (λ p. get_or p 0 0) (pair_is (blocks l) e h) ∙ ap (λ (r : Block). r.size) (block_is l b (within (blocks l) e h))
 
-  pub pair_color : get_or (get_or ps b []) 1 0 ≡ get_or l (2 * b + 1) 0
-  pair_color = ap (λ p. get_or p 1 0) (pair_is (blocks l) e h) ∙ ap (λ (r : Block). r.color) (block_is l b (within (blocks l) e h))
-
 -- all of them have been passed
 pub pairs_done : (bs : List Block) {ps : List (List ℕ)} → ps ≡ pairs bs → {b : ℕ} → length ps ≤ b → drop b bs ≡ []
 pairs_done bs e h = drop_of_length-le bs (omega (arith, h, ap length e, length-map bs (λ b. b.size ∷ b.color ∷ [])))
